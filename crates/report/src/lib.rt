@@ -1,10 +1,10 @@
 // What `check` prints for a text, as a value.
 ghost use mathlib.Core.Path.{_≡_};
-ghost use mathlib.Core.List.{_∷_, _++_};
+ghost use mathlib.Core.List.{_∷_, _++_, map};
 ghost use Rattle.std.specs.Of.Vec.{vec-items};
 ghost use Rattle.std.specs.Vec.{made};
 ghost use Rattle.std.specs.Written.{decimal};
-ghost use Rattle.report.specs.Report.{faultLine, reported};
+ghost use Rattle.report.specs.Report.{faultLine, printed, reported};
 ghost use Rattle.text.specs.Faults.{textNumber, textPlace};
 use std::alloc::AllocError;
 use std::alloc::Global;
@@ -13,14 +13,20 @@ use text::fault::TextFault;
 use text::written::Numeral;
 
 const TAB: u8 = 9;
+
 const NEWLINE: u8 = 10;
 
-// Adds a tab and a number.
-fn put_number(out: &mut Vec<u8>, n: u64) -> Result<(), AllocError>
-    ensures { λ r. ⌜ made r (λ _. vec-items (now (out .exit)) ≡ vec-items (now (out .entry)) ++ (9 ∷ decimal n)) ⌝ }
+// Adds a line: the fields with tabs between them, and its end.
+fn put_line(out: &mut Vec<u8>, fields: &[&[u8]]) -> Result<(), AllocError>
+    ensures { λ r. ⌜ made r (λ _. vec-items (now (out .exit)) ≡ vec-items (now (out .entry)) ++ printed (map now (now (fields .entry)))) ⌝ }
 {
-    out.push(TAB)?;
-    out.extend_from_slice(Numeral::natural(n).as_bytes())?;
+    for (i, field) in fields.iter().enumerate() {
+        if i > 0 {
+            out.push(TAB)?;
+        }
+        out.extend_from_slice(field)?;
+    }
+    out.push(NEWLINE)?;
     Ok(())
 }
 
@@ -29,12 +35,18 @@ fn put_fault(out: &mut Vec<u8>, fault: TextFault) -> Result<(), AllocError>
     ensures { λ r. ⌜ made r (λ _. vec-items (now (out .exit)) ≡ vec-items (now (out .entry)) ++ faultLine (textNumber fault) (textPlace fault)) ⌝ }
 {
     let place = fault.place();
-    out.extend_from_slice(b"fault")?;
-    put_number(out, fault.number() as u64)?;
-    put_number(out, place.line as u64)?;
-    put_number(out, place.field as u64)?;
-    out.push(NEWLINE)?;
-    Ok(())
+    let number = Numeral::natural(fault.number() as u64);
+    let line = Numeral::natural(place.line as u64);
+    let field = Numeral::natural(place.field as u64);
+    put_line(
+        out,
+        &[
+            b"fault".as_slice(),
+            number.as_bytes(),
+            line.as_bytes(),
+            field.as_bytes(),
+        ],
+    )
 }
 
 // What is printed for a text; want of memory is the only error.

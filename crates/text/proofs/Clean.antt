@@ -32,12 +32,12 @@ lines-allowed : (xs : List ℕ) → each (each allowed) (linesOf xs) ≡ each te
 lines-allowed [] = refl
 lines-allowed (x ∷ xs) =
     ⊎-elim
-      (λ (yes : eqb x 10 ≡ true).
-        ap (each (each allowed)) (cond-true _ _ _ yes) ∙ lines-allowed xs ∙ sym (ap (λ (b : Bool). (b || allowed x) && each textByte xs) yes))
-      (λ (no : eqb x 10 ≡ false).
-        ap (each (each allowed)) (cond-false _ _ _ no) ∙ onto-allowed x (linesOf xs) ∙ ap (λ (b : Bool). allowed x && b) (lines-allowed xs)
-        ∙ sym (ap (λ (b : Bool). (b || allowed x) && each textByte xs) no))
-      (cases-bool (eqb x 10))
+    (λ (yes : eqb x 10 ≡ true).
+    ap (each (each allowed)) (cond-true _ _ _ yes) ∙ lines-allowed xs ∙ sym (ap (λ (b : Bool). (b || allowed x) && each textByte xs) yes))
+    (λ (no : eqb x 10 ≡ false).
+    ap (each (each allowed)) (cond-false _ _ _ no) ∙ onto-allowed x (linesOf xs) ∙ ap (λ (b : Bool). allowed x && b) (lines-allowed xs)
+    ∙ sym (ap (λ (b : Bool). (b || allowed x) && each textByte xs) no))
+    (cases-bool (eqb x 10))
 
 lines-ok : (n : ℕ) (ls : List (List ℕ)) → each (each allowed) ls ≡ true → linesBytes n ls ≡ Ok tt
 lines-ok n [] h = refl
@@ -49,34 +49,35 @@ ok-lines : (n : ℕ) (ls : List (List ℕ)) → linesBytes n ls ≡ Ok tt → ea
 ok-lines n [] h = refl
 ok-lines n (l ∷ ls) h =
     ⊎-elim
-      (λ (yes : each allowed l ≡ true).
-        and-from _ _ yes (ok-lines (n + 1) ls (sym (ap (λ (r : Result (Unit {0}) TextFault). andThen r (λ _. linesBytes (n + 1) ls)) (cond-true _ _ _ yes)) ∙ h)))
-      (λ (no : each allowed l ≡ false).
-        let bad = sym (ap (λ (r : Result (Unit {0}) TextFault). andThen r (λ _. linesBytes (n + 1) ls)) (cond-false _ _ _ no)) ∙ h in absurd (grind arith))
-      (cases-bool (each allowed l))
+    (λ (yes : each allowed l ≡ true).
+    and-from _ _ yes (ok-lines (n + 1) ls (sym (ap (λ (r : Result (Unit {0}) TextFault). andThen r (λ _. linesBytes (n + 1) ls)) (cond-true _ _ _ yes)) ∙ h)))
+    (λ (no : each allowed l ≡ false).
+    let bad = sym (ap (λ (r : Result (Unit {0}) TextFault). andThen r (λ _. linesBytes (n + 1) ls)) (cond-false _ _ _ no)) ∙ h in absurd (grind arith))
+    (cases-bool (each allowed l))
 
 -- the rest of the checks, where the text as a whole passes
 rest-of : (text : List ℕ) → length text ≤ 65536 → finished text ≡ true → textFault text ≡ linesBytes 1 (linesOf text)
 rest-of text short end =
     ap (λ (r : Result (Unit {0}) TextFault). andThen r (λ _. linesBytes 1 (linesOf text)))
-      (cond-false _ _ _ (le-ltb 65536 (length text) short) ∙ cond-true _ _ _ end)
+    (cond-false _ _ _ (le-ltb 65536 (length text) short) ∙ cond-true _ _ _ end)
 
 whole-ok : (text : List ℕ) → textFault text ≡ Ok tt → (length text ≤ 65536) × (finished text ≡ true)
 whole-ok text h =
     ⊎-elim
-      (λ (long : ltb 65536 (length text) ≡ true). absurd (never TooLong (cond-true _ _ _ long)))
-      (λ (short : ltb 65536 (length text) ≡ false).
-        ⊎-elim
-          (λ (end : finished text ≡ true). (ltb-false 65536 (length text) short, end))
-          (λ (open′ : finished text ≡ false). absurd (never _ (cond-false _ _ _ short ∙ cond-false _ _ _ open′)))
-          (cases-bool (finished text)))
-      (cases-bool (ltb 65536 (length text)))
+    (λ (long : ltb 65536 (length text) ≡ true). absurd (never TooLong (cond-true _ _ _ long)))
+    (λ (short : ltb 65536 (length text) ≡ false).
+    ⊎-elim
+    (λ (end : finished text ≡ true). (ltb-false 65536 (length text) short, end))
+    (λ (open′ : finished text ≡ false). absurd (never _ (cond-false _ _ _ short ∙ cond-false _ _ _ open′)))
+    (cases-bool (finished text)))
+    (cases-bool (ltb 65536 (length text)))
   where
     never : (f : TextFault) → wholeText text ≡ Err f → ⊥
     never f e = let bad = sym (ap (λ (r : Result (Unit {0}) TextFault). andThen r (λ _. linesBytes 1 (linesOf text))) e) ∙ h in grind arith
 
 pub clean-exactly : (text : List ℕ) → FaultExactly text (textFault text)
-clean-exactly text =
-    ((λ ok. let w = whole-ok text ok in
+clean-exactly text = (
+  (λ ok. let w = whole-ok text ok in
       record { short = w .0; ended = w .1; bytes = sym (lines-allowed text) ∙ ok-lines 1 (linesOf text) (sym (rest-of text (w .0) (w .1)) ∙ ok) }),
-    (λ clean. rest-of text (clean .short) (clean .ended) ∙ lines-ok 1 (linesOf text) (lines-allowed text ∙ clean .bytes)))
+  (λ clean. rest-of text (clean .short) (clean .ended) ∙ lines-ok 1 (linesOf text) (lines-allowed text ∙ clean .bytes)),
+)

@@ -32,14 +32,14 @@ tabbed-onto x (f ∷ g ∷ fs) h = refl
 more-fields : (x : ℕ) (xs : List ℕ) (fs : List (List ℕ)) → 0 < length fs → FieldsMake xs fs → FieldsMake (x ∷ xs) (cond (eqb x 9) ([] ∷ fs) (onto x fs))
 more-fields x xs fs some ih =
     ⊎-elim
-      (λ (yes : eqb x 9 ≡ true).
-        let tab : 9 ≡ x = sym (eqb-true x 9 yes) in
-        subst (FieldsMake (x ∷ xs)) (sym (cond-true _ _ _ yes))
-          (tabbed-more [] fs some ∙ ap (λ (l : List ℕ). 9 ∷ l) (ih .0) ∙ ap (λ (b : ℕ). b ∷ xs) tab, (tt, ih .1)))
-      (λ (no : eqb x 9 ≡ false).
-        subst (FieldsMake (x ∷ xs)) (sym (cond-false _ _ _ no))
-          (tabbed-onto x fs some ∙ ap (λ (l : List ℕ). x ∷ l) (ih .0), onto-lacks 9 x fs no (ih .1)))
-      (cases-bool (eqb x 9))
+    (λ (yes : eqb x 9 ≡ true).
+    let tab : 9 ≡ x = sym (eqb-true x 9 yes) in
+    subst (FieldsMake (x ∷ xs)) (sym (cond-true _ _ _ yes))
+    (tabbed-more [] fs some ∙ ap (λ (l : List ℕ). 9 ∷ l) (ih .0) ∙ ap (λ (b : ℕ). b ∷ xs) tab, (tt, ih .1)))
+    (λ (no : eqb x 9 ≡ false).
+    subst (FieldsMake (x ∷ xs)) (sym (cond-false _ _ _ no))
+    (tabbed-onto x fs some ∙ ap (λ (l : List ℕ). x ∷ l) (ih .0), onto-lacks 9 x fs no (ih .1)))
+    (cases-bool (eqb x 9))
 
 pub fields-make : (line : List ℕ) → FieldsMake line (fieldsOf line)
 fields-make [] = (refl, (tt, tt))
@@ -56,12 +56,12 @@ text-onto x (l ∷ ls) h = refl
 more-lines : (x : ℕ) (xs : List ℕ) (ls : List (List ℕ)) → (eqb x 10 ≡ false → 0 < length ls) → LinesMake xs ls → LinesMake (x ∷ xs) (cond (eqb x 10) ([] ∷ ls) (onto x ls))
 more-lines x xs ls some ih =
     ⊎-elim
-      (λ (yes : eqb x 10 ≡ true).
-        let end : 10 ≡ x = sym (eqb-true x 10 yes) in
-        subst (LinesMake (x ∷ xs)) (sym (cond-true _ _ _ yes)) (ap (λ (l : List ℕ). 10 ∷ l) (ih .0) ∙ ap (λ (b : ℕ). b ∷ xs) end, (tt, ih .1)))
-      (λ (no : eqb x 10 ≡ false).
-        subst (LinesMake (x ∷ xs)) (sym (cond-false _ _ _ no)) (text-onto x ls (some no) ∙ ap (λ (l : List ℕ). x ∷ l) (ih .0), onto-lacks 10 x ls no (ih .1)))
-      (cases-bool (eqb x 10))
+    (λ (yes : eqb x 10 ≡ true).
+    let end : 10 ≡ x = sym (eqb-true x 10 yes) in
+    subst (LinesMake (x ∷ xs)) (sym (cond-true _ _ _ yes)) (ap (λ (l : List ℕ). 10 ∷ l) (ih .0) ∙ ap (λ (b : ℕ). b ∷ xs) end, (tt, ih .1)))
+    (λ (no : eqb x 10 ≡ false).
+    subst (LinesMake (x ∷ xs)) (sym (cond-false _ _ _ no)) (text-onto x ls (some no) ∙ ap (λ (l : List ℕ). x ∷ l) (ih .0), onto-lacks 10 x ls no (ih .1)))
+    (cases-bool (eqb x 10))
 
 finished-rest : (x y : ℕ) (ys : List ℕ) → finished (x ∷ y ∷ ys) ≡ true → finished (y ∷ ys) ≡ true
 finished-rest x y ys h =

@@ -66,13 +66,13 @@ ranged-some least most v None f g e = absurd (grind arith)
 ranged-some least most v (Some (pos n)) f g e =
     let w : v ≡ pos (capped n) = cc in
     ⊎-elim (λ (h : n < 4294967296). ap (λ (z : ℤ). ranged least most (Some z)) (w ∙ ap pos (omega arith)))
-      (λ (h : 4294967296 ≤ n). out-over least most v (omega (arith, ints)) ∙ sym (out-over least most (pos n) (omega (arith, ints))))
-      (cases-lt n 4294967296)
+    (λ (h : 4294967296 ≤ n). out-over least most v (omega (arith, ints)) ∙ sym (out-over least most (pos n) (omega (arith, ints))))
+    (cases-lt n 4294967296)
 ranged-some least most v (Some (negsuc n)) f g e =
     let w : v ≡ negsuc (min n 4294967294) = cc in
     ⊎-elim (λ (h : n < 4294967295). ap (λ (z : ℤ). ranged least most (Some z)) (w ∙ ap negsuc (omega arith)))
-      (λ (h : 4294967295 ≤ n). out-under least most v (omega (arith, ints)) ∙ sym (out-under least most (negsuc n) (omega (arith, ints))))
-      (cases-lt n 4294967295)
+    (λ (h : 4294967295 ≤ n). out-under least most v (omega (arith, ints)) ∙ sym (out-under least most (negsuc n) (omega (arith, ints))))
+    (cases-lt n 4294967295)
 
 pub in-range : (least most z : ℤ) → least ≤ℤ z → z ≤ℤ most → ranged least most (Some z) ≡ Ok z
 in-range least most z h k =

@@ -48,21 +48,21 @@ not-plain len first e = (grind (arith, tells), λ h. grind (arith, tells))
 natural-decimal : (n : ℕ) → n < 2 ^ 64 → natural (decimal n) ≡ Some n
 natural-decimal n small =
     let first =
-      ⊎-elim (λ (z : n < 1). inl (length-decimal-le 1 n (omega arith) (omega arith) small)) (λ (p : 1 ≤ n). inr (first-decimal n p small)) (cases-lt n 1) in
+    ⊎-elim (λ (z : n < 1). inl (length-decimal-le 1 n (omega arith) (omega arith) small)) (λ (p : 1 ≤ n). inr (first-decimal n p small)) (cases-lt n 1) in
     cond-true (isNatural (decimal n)) _ _
-      (and-from _ _ (digits-decimal own n small) (plain (length (decimal n)) (getD (decimal n) 0 0) (decimal-some n small) first))
+    (and-from _ _ (digits-decimal own n small) (plain (length (decimal n)) (getD (decimal n) 0 0) (decimal-some n small) first))
     ∙ ap Some (value-decimal own n small)
 
 natural-only : (ds : List ℕ) (n : ℕ) → n < 2 ^ 64 → natural ds ≡ Some n → ds ≡ decimal n
 natural-only ds n small e =
     ⊎-elim
-      (λ (yes : isNatural ds ≡ true).
-        let parts = and-parts (each asciiDigit ds) _ yes in
-        let rest = not-plain (length ds) (getD ds 0 0) (parts .1) in
-        let same : readOn 0 ds ≡ n = let f : natural ds ≡ Some (readOn 0 ds) = cond-true _ _ _ yes in cc in
-        sym (decimal-value own ds (parts .0) (rest .0) (rest .1) (omega arith)) ∙ ap decimal same)
-      (λ (no : isNatural ds ≡ false). let f : natural ds ≡ None = cond-false _ _ _ no in absurd (grind arith))
-      (cases-bool (isNatural ds))
+    (λ (yes : isNatural ds ≡ true).
+    let parts = and-parts (each asciiDigit ds) _ yes in
+    let rest = not-plain (length ds) (getD ds 0 0) (parts .1) in
+    let same : readOn 0 ds ≡ n = let f : natural ds ≡ Some (readOn 0 ds) = cond-true _ _ _ yes in cc in
+    sym (decimal-value own ds (parts .0) (rest .0) (rest .1) (omega arith)) ∙ ap decimal same)
+    (λ (no : isNatural ds ≡ false). let f : natural ds ≡ None = cond-false _ _ _ no in absurd (grind arith))
+    (cases-bool (isNatural ds))
 
 -- a digit is no minus
 no-minus : (n : ℕ) → n < 2 ^ 64 → eqb (getD (decimal n) 0 0) 45 ≡ false
@@ -100,10 +100,10 @@ after-minus (b ∷ ds) z small h e = signed-from (b ∷ ds) ds z small (ap (λ (
 pub numeral-only : (bs : List ℕ) (z : ℤ) → mag z < 2 ^ 63 → numeral bs ≡ Some z → bs ≡ signed z
 numeral-only bs z small e =
     ⊎-elim
-      (λ (minus : eqb (getD bs 0 0) 45 ≡ true).
-        after-minus bs z small (eqb-true (getD bs 0 0) 45 minus) (sym (cond-true _ _ _ minus) ∙ e))
-      (λ (none : eqb (getD bs 0 0) 45 ≡ false). no-sign bs z small (natural bs) refl (sym (cond-false _ _ _ none) ∙ e))
-      (cases-bool (eqb (getD bs 0 0) 45))
+    (λ (minus : eqb (getD bs 0 0) 45 ≡ true).
+    after-minus bs z small (eqb-true (getD bs 0 0) 45 minus) (sym (cond-true _ _ _ minus) ∙ e))
+    (λ (none : eqb (getD bs 0 0) 45 ≡ false). no-sign bs z small (natural bs) refl (sym (cond-false _ _ _ none) ∙ e))
+    (cases-bool (eqb (getD bs 0 0) 45))
 
 -- a number by its sign and size
 pub signed-plain : (z : ℤ) → leZ (pos 0) z ≡ true → signed z ≡ decimal (natAbs z)
@@ -125,13 +125,13 @@ ranged-ok : (least most z : ℤ) (o : Option ℤ) → ranged least most o ≡ Ok
 ranged-ok least most z None e = absurd (grind arith)
 ranged-ok least most z (Some y) e =
     ⊎-elim
-      (λ (yes : (leZ least y && leZ y most) ≡ true).
-        let same : y ≡ z = let f : ranged least most (Some y) ≡ Ok y = cond-true _ _ _ yes in cc in
-        let parts = and-parts (leZ least y) (leZ y most) yes in
-        (ap Some same, grind (arith, ints), grind (arith, ints)))
-      (λ (no : (leZ least y && leZ y most) ≡ false).
-        let f : ranged least most (Some y) ≡ Err OutOfRange = cond-false _ _ _ no in absurd (grind arith))
-      (cases-bool (leZ least y && leZ y most))
+    (λ (yes : (leZ least y && leZ y most) ≡ true).
+    let same : y ≡ z = let f : ranged least most (Some y) ≡ Ok y = cond-true _ _ _ yes in cc in
+    let parts = and-parts (leZ least y) (leZ y most) yes in
+    (ap Some same, grind (arith, ints), grind (arith, ints)))
+    (λ (no : (leZ least y && leZ y most) ≡ false).
+    let f : ranged least most (Some y) ≡ Err OutOfRange = cond-false _ _ _ no in absurd (grind arith))
+    (cases-bool (leZ least y && leZ y most))
 
 between-small : (least most z : ℤ) → SFits w32 least → SFits w32 most → least ≤ℤ z → z ≤ℤ most → mag z < 2 ^ 63
 between-small least most (pos n) f g low high = omega (arith, ints)
@@ -139,8 +139,9 @@ between-small least most (negsuc n) f g low high = omega (arith, ints)
 
 pub just-written : (least most : ℤ) (bs : List ℕ) (r : Result ℤ NumeralFault) → SFits w32 least → SFits w32 most
     → r ≡ ranged least most (numeral bs) → JustWritten least most bs r
-just-written least most bs r f g e z =
-    ((λ ok. let p = ranged-ok least most z (numeral bs) (sym e ∙ ok) in
+just-written least most bs r f g e z = (
+  (λ ok. let p = ranged-ok least most z (numeral bs) (sym e ∙ ok) in
       (numeral-only bs z (between-small least most z f g (p .1) (p .2)) (p .0), p .1, p .2)),
-    (λ is low high.
-      e ∙ ap (ranged least most) (ap numeral is ∙ numeral-signed z (between-small least most z f g low high)) ∙ in-range least most z low high))
+  (λ is low high.
+      e ∙ ap (ranged least most) (ap numeral is ∙ numeral-signed z (between-small least most z f g low high)) ∙ in-range least most z low high),
+)

@@ -25,7 +25,9 @@ pub fn check_whole(text: &[u8]) -> Result<(), TextFault>
         return Err(TextFault::TooLong);
     }
     if !is_finished(text) {
-        return Err(TextFault::Unfinished { line: count_parts(text, NEWLINE) });
+        return Err(TextFault::Unfinished {
+            line: count_parts(text, NEWLINE),
+        });
     }
     Ok(())
 }

@@ -4,7 +4,7 @@ ghost use Prim.Native.Nat.{ℕ, _+_, _-_, _<_, _≤_};
 ghost use lib.ListN.{length, getD, take, drop};
 ghost use Rattle.std.specs.Options.{Cases};
 ghost use Rattle.text.specs.Split.{before, partedBy, fieldsOf, FieldsMake};
-ghost use Rattle.text.specs.Checks.{allowed, lineBytes};
+ghost use Rattle.text.specs.Checks.{allowed, each, lineBytes};
 use crate::fault::Place;
 use crate::fault::TextFault;
 
@@ -45,6 +45,17 @@ fn is_allowed(b: u8) -> bool
     b == TAB || (b >= 32 && b <= 126)
 }
 
+fn all_allowed(bytes: &[u8]) -> bool
+    ensures { λ r. ⌜ r ≡ each allowed (now (bytes .entry)) ⌝ }
+{
+    for b in bytes {
+        if !is_allowed(*b) {
+            return false;
+        }
+    }
+    true
+}
+
 // A field of a line: a part of the text, with its place.
 #[derive(Clone, Copy)]
 pub struct Field<'a> {
@@ -64,12 +75,10 @@ impl<'a> Line<'a> {
     pub fn check_bytes(self) -> Result<(), TextFault>
         ensures { λ r. ⌜ r ≡ lineBytes (self .entry .number) (now (self .entry .bytes)) ⌝ }
     {
-        for b in self.bytes {
-            if !is_allowed(*b) {
-                return Err(TextFault::BadByte { line: self.number });
-            }
+        if all_allowed(self.bytes) {
+            return Ok(());
         }
-        Ok(())
+        Err(TextFault::BadByte { line: self.number })
     }
 
     // How many fields the line has: at least one. The fields with tabs between them are the line.
@@ -93,6 +102,12 @@ impl<'a> Line<'a> {
             rest = &rest[n + 1..];
         }
         let bytes = &rest[..span(rest, TAB)];
-        Some(Field { bytes, place: Place { line: self.number, field: k + 1 } })
+        Some(Field {
+            bytes,
+            place: Place {
+                line: self.number,
+                field: k + 1,
+            },
+        })
     }
 }

@@ -1,7 +1,7 @@
 ghost use mathlib.Core.Path.{_≡_};
 ghost use mathlib.Core.Bool.{false};
 ghost use Rattle.std.specs.Options.{Cases};
-ghost use Rattle.std.specs.shelf.Text.{sameBytes};
+ghost use Rattle.std.specs.Orderings.{Decides};
 ghost use Rattle.text.specs.Checks.{each};
 ghost use Rattle.text.specs.Names.{nameByte, isName};
 ghost use Rattle.text.specs.Spelled.{spelled};
@@ -27,6 +27,12 @@ fn all_name_bytes(bytes: &[u8]) -> bool
     true
 }
 
+fn same_bytes(a: &[u8], b: &[u8]) -> bool
+    ensures { λ r. ⌜ Decides r (now (a .entry) ≡ now (b .entry)) ⌝ }
+{
+    a == b
+}
+
 impl Name {
     // The name that is written so, or None where these bytes are no name.
     pub fn new(written: &[u8]) -> Option<Name>
@@ -50,8 +56,8 @@ impl Name {
 
     // Whether it is written so.
     pub fn is(&self, written: &[u8]) -> bool
-        ensures { λ r. ⌜ r ≡ sameBytes (spelled (now (self .entry))) (now (written .entry)) ⌝ }
+        ensures { λ r. ⌜ Decides r (spelled (now (self .entry)) ≡ now (written .entry)) ⌝ }
     {
-        self.as_bytes() == written
+        same_bytes(self.as_bytes(), written)
     }
 }

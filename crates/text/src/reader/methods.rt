@@ -14,7 +14,10 @@ impl<'a> Reader<'a> {
         ensures begins { λ r. ⌜ Begins (now (text .entry)) r ⌝ }
         ensures lossless { λ r. ⌜ (finished (now (text .entry)) ≡ true → LinesMake (now (text .entry)) (toCome r)) ⌝ }
     {
-        Reader { rest: text, line: 0 }
+        Reader {
+            rest: text,
+            line: 0,
+        }
     }
 
     // The next line, or None at the end of the text.

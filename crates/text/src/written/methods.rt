@@ -15,7 +15,10 @@ impl Numeral {
         ensures written { λ r. ⌜ digitsOf r ≡ decimal n ⌝ }
         ensures read { λ r. ⌜ numeral (digitsOf r) ≡ Some (pos n) ⌝ }
     {
-        let mut written = Numeral { bytes: [0; 20], len: 0 };
+        let mut written = Numeral {
+            bytes: [0; 20],
+            len: 0,
+        };
         written.put_natural(n);
         written
     }
@@ -28,7 +31,10 @@ impl Numeral {
         if value >= 0 {
             return Numeral::natural(value.unsigned_abs());
         }
-        let mut written = Numeral { bytes: [0; 20], len: 0 };
+        let mut written = Numeral {
+            bytes: [0; 20],
+            len: 0,
+        };
         written.put_byte(b'-');
         written.put_natural(value.unsigned_abs());
         written

@@ -10,7 +10,7 @@ use Rattle.text.proofs.Clean.{clean-exactly}
 use Rattle.text.proofs.checks.check_bytes.Needs as need
 
 -- the first clause gives the second
-both : (text : List ℕ) (r : Result (Unit {0}) TextFault) → r ≡ textFault text → record {value : r ≡ textFault text; exactly : FaultExactly text r}
+both : (text : List ℕ) (r : Result (Unit {0}) TextFault) → r ≡ textFault text → record { value : r ≡ textFault text; exactly : FaultExactly text r }
 both text r is = record { value = is; exactly = subst (FaultExactly text) (sym is) (clean-exactly text) }
 
 pub returns-in-Break-check-bytes : need.returns-in-Break-check-bytes

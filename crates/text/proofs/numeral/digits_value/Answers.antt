@@ -19,10 +19,11 @@ pub loop-d-again : need.loop-d-again
 loop-d-again c =
     let ds = c .args .digits .now in
     let i = c .loop-d .d-index in
-    let step = c .min-n .ensures ∙ ap (λ (d : ℕ). capped (c .loop-d .n * 10 + d)) (c .from .ensures) in
-    (search (needs, each-more asciiDigit)
-    , ap (λ (n : ℕ). capped (readOn n (drop (i + 1) ds))) step ∙ readOn-more (c .loop-d .n) ds i (c .loop-d-test .taken) ∙ c .loop-d .inv .1
-    , search needs)
+    let step = c .min-n .ensures ∙ ap (λ (d : ℕ). capped (c .loop-d .n * 10 + d)) (c .from .ensures) in (
+      search (needs, each-more asciiDigit),
+      ap (λ (n : ℕ). capped (readOn n (drop (i + 1) ds))) step ∙ readOn-more (c .loop-d .n) ds i (c .loop-d-test .taken) ∙ c .loop-d .inv .1,
+      search needs,
+    )
 
 pub returns : need.returns
 returns c =

@@ -25,6 +25,8 @@ returns-in-rest-2 c =
     let minus : getD (c .args .written .now) 0 0 ≡ 45 = search needs in
     let some : n ≡ 0 → ⊥ = search needs in
     let small = c .in-Continue-n .ensures tt .bound in
-    record { value =
-      ap Some (omega (arith, ints)) ∙ sym (negative-some n some)
-      ∙ numeral-minus (c .args .written .now) _ minus (c .in-Continue-n .ensures tt .value) }
+    record {
+      value =
+          ap Some (omega (arith, ints)) ∙ sym (negative-some n some)
+          ∙ numeral-minus (c .args .written .now) _ minus (c .in-Continue-n .ensures tt .value);
+    }

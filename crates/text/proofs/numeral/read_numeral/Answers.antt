@@ -19,7 +19,7 @@ use Rattle.text.proofs.numeral.read_numeral.Needs.{then-value-from·by·then-v
 
 -- one clause gives the other
 both : (least most : ℤ) (bs : List ℕ) (r : Result ℤ NumeralFault) → SFits w32 least → SFits w32 most → r ≡ ranged least most (numeral bs)
-    → record {value : r ≡ ranged least most (numeral bs); exact : JustWritten least most bs r}
+    → record { value : r ≡ ranged least most (numeral bs); exact : JustWritten least most bs r }
 both least most bs r f g e = record { value = e; exact = just-written least most bs r f g e }
 
 pub returns-in-rest : need.returns-in-rest
@@ -36,9 +36,10 @@ returns-then-value-from c =
     let high = c .args .most in
     let same = ranged-some low high v _ (c .fits .least) (c .fits .most) (c .in-Some .ensures tt .value) in
     both low high (c .args .written .now) _ (c .fits .least) (c .fits .most)
-      (elim (c .then-value-from .came)
-      [ then-value-from·by·then-value-from w ↦ let h : v <ℤ low = grind (arith, ints, toZ-ofZ) in sym (out-under low high v h) ∙ same
-      | then-value-from·by·else-value-from·then-value-from-2 w ↦ let h : high <ℤ v = grind (arith, ints, toZ-ofZ) in sym (out-over low high v h) ∙ same ])
+    (elim (c .then-value-from .came) [
+      | then-value-from·by·then-value-from w ↦ let h : v <ℤ low = grind (arith, ints, toZ-ofZ) in sym (out-under low high v h) ∙ same
+      | then-value-from·by·else-value-from·then-value-from-2 w ↦ let h : high <ℤ v = grind (arith, ints, toZ-ofZ) in sym (out-over low high v h) ∙ same
+    ])
 
 pub returns : need.returns
 returns c =

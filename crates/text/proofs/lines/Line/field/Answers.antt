@@ -20,9 +20,10 @@ pub loop-again : need.loop-again
 loop-again c =
     let xs = c .loop .rest .now in
     let inside : before 9 xs < length xs = omega arith in
-    let rest = rest-after xs (before 9 xs) (c .span-n .result + 1) (omega arith) in
-    (parted-next 9 (fieldsOf (c .args .self .bytes .now)) xs (c .loop .counter) (c .loop .inv .0) inside ∙ sym (ap (partedBy 9) rest)
-    , omega (arith, ap length rest, length-drop (before 9 xs + 1) xs))
+    let rest = rest-after xs (before 9 xs) (c .span-n .result + 1) (omega arith) in (
+      parted-next 9 (fieldsOf (c .args .self .bytes .now)) xs (c .loop .counter) (c .loop .inv .0) inside ∙ sym (ap (partedBy 9) rest),
+      omega (arith, ap length rest, length-drop (before 9 xs + 1) xs),
+    )
 
 pub add-result : need.add-result
 add-result c = search (needs, parted-le 9 (c .args .self .bytes .now), parted-within)
@@ -32,4 +33,4 @@ returns c =
     let ps = fieldsOf (c .args .self .bytes .now) in
     let xs = c .loop .rest .now in
     let at : drop (c .args .k) ps ≡ fieldsOf xs = ap (λ (i : ℕ). drop i ps) (omega arith) ∙ c .loop .inv .0 in
-    (parted-within 9 ps xs (c .args .k) at, ap (λ (n : ℕ). take n xs) (c .span .ensures .value) ∙ sym (parted-here 9 ps xs (c .args .k) at), refl)
+    (parted-within 9 ps xs (c .args .k) at, ap (λ (n : ℕ). take n xs) (c .span .ensures .value) ∙ sym (parted-here 9 ps xs (c .args .k) at), search needs)

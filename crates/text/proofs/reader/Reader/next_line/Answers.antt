@@ -1,5 +1,5 @@
 use borrow.Author.Needs.{needs}
-use mathlib.Core.Path.{_≡_, refl, sym, ap, _∙_}
+use mathlib.Core.Path.{_≡_, sym, ap, _∙_}
 use mathlib.Core.List.{List, _∷_}
 use Prim.Native.Nat.{ℕ, _+_, _-_, _<_}
 use native.Mathlib.Omega.{arith}
@@ -18,8 +18,8 @@ returns c =
     let n = c .span-n .result in
     let some : 0 < length xs = search needs in
     let rest : take (length xs - c .if-n-self .after) (drop (c .if-n-self .after) xs) ≡ drop (n + 1) xs =
-      elim (c .if-n-self .came)
-      [ then-n-self w ↦ rest-after xs n _ (w .after-is) | else-n-self w ↦ rest-none xs n _ (w .after-is) (w .if-n-self .left) ] in
+    elim (c .if-n-self .came)
+    [ then-n-self w ↦ rest-after xs n _ (w .after-is) | else-n-self w ↦ rest-none xs n _ (w .after-is) (w .if-n-self .left) ] in
     let first : linesOf xs ≡ take n xs ∷ linesOf (drop (n + 1) xs) =
-      ended-some 10 xs some ∙ ap (λ (k : ℕ). take k xs ∷ linesOf (drop (k + 1) xs)) (sym (c .span-n .ensures .value)) in
-    (first ∙ ap (λ (l : List ℕ). take n xs ∷ linesOf l) (sym rest), refl, refl)
+    ended-some 10 xs some ∙ ap (λ (k : ℕ). take k xs ∷ linesOf (drop (k + 1) xs)) (sym (c .span-n .ensures .value)) in
+    (first ∙ ap (λ (l : List ℕ). take n xs ∷ linesOf l) (sym rest), search needs, search needs)

@@ -37,7 +37,7 @@ returns c =
     let minus : leZ (pos 0) z ≡ false = simp toZ-ofZ at (c .if-value-ge0 .left) in
     let size : c .unsigned-abs-2 .result ≡ natAbs z = simp toZ-ofZ at (c .unsigned-abs-2 .ensures .value) in
     let is : digitsOf (c .put-natural .last .self) ≡ signed z =
-      c .put-natural .ensures .bytes
-      ∙ ap (λ (s : List ℕ). s ++ decimal (c .unsigned-abs-2 .result)) (c .put-byte .ensures .bytes)
-      ∙ ap (λ (n : ℕ). 45 ∷ decimal n) size ∙ sym (signed-minus z minus) in
+    c .put-natural .ensures .bytes
+    ∙ ap (λ (s : List ℕ). s ++ decimal (c .unsigned-abs-2 .result)) (c .put-byte .ensures .bytes)
+    ∙ ap (λ (n : ℕ). 45 ∷ decimal n) size ∙ sym (signed-minus z minus) in
     record { written = is; read = ap numeral is ∙ numeral-signed z (fits .sfits) }

@@ -1,0 +1,4 @@
+pub mod Masks
+pub mod Parts
+pub mod Added
+pub mod Sets

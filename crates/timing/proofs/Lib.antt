@@ -1,0 +1,13 @@
+pub mod Keeping
+pub mod Bands
+pub mod Pigeonhole
+pub mod Range
+pub mod Trials
+pub mod Statements
+pub mod Those
+pub mod Certificates
+pub mod KnotCertificates
+pub mod WorkedSheets
+pub mod Rise
+pub mod Room
+pub mod Narrow

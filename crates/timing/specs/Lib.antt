@@ -1,0 +1,9 @@
+pub mod Limits
+pub mod Model
+pub mod Timetables
+pub mod Places
+pub mod Knots
+pub mod Theorems
+pub mod Worked
+pub mod Rise
+pub mod Bounds

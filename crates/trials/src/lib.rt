@@ -1,0 +1,7 @@
+//! Tests over the public calls of the other crates, apart from them so that a crate is not proved again for its tests.
+#[cfg(test)]
+mod numbers;
+#[cfg(test)]
+mod rule_sets;
+#[cfg(test)]
+mod texts;
