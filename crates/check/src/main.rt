@@ -1,9 +1,9 @@
-// Reads a timing sheet from standard input and prints what is found.
+//! Reads a timing sheet from standard input and prints what is found.
 use std::error::AnyError;
 use std::io::Read;
 use std::io::Write;
 
-// One byte more than a text may have shows that it is too long.
+/// One byte more than a text may have shows that it is too long.
 const LIMIT: u64 = 65_537;
 
 fn main(rt: LibcRuntime) -> Result<(), AnyError> {

@@ -1,4 +1,4 @@
-// What `check` prints for a text, as a value.
+//! What `check` prints for a text, as a value.
 ghost use mathlib.Core.Path.{_≡_};
 ghost use mathlib.Core.List.{_∷_, _++_, map};
 ghost use Rattle.std.specs.Of.Vec.{vec-items};
@@ -16,7 +16,7 @@ const TAB: u8 = 9;
 
 const NEWLINE: u8 = 10;
 
-// Adds a line: the fields with tabs between them, and its end.
+/// Adds a line: the fields with tabs between them, and its end.
 fn put_line(out: &mut Vec<u8>, fields: &[&[u8]]) -> Result<(), AllocError>
     ensures { λ r. ⌜ made r (λ _. vec-items (now (out .exit)) ≡ vec-items (now (out .entry)) ++ printed (map now (now (fields .entry)))) ⌝ }
 {
@@ -30,7 +30,7 @@ fn put_line(out: &mut Vec<u8>, fields: &[&[u8]]) -> Result<(), AllocError>
     Ok(())
 }
 
-// Adds the line that tells a fault.
+/// Adds the line that tells a fault.
 fn put_fault(out: &mut Vec<u8>, fault: TextFault) -> Result<(), AllocError>
     ensures { λ r. ⌜ made r (λ _. vec-items (now (out .exit)) ≡ vec-items (now (out .entry)) ++ faultLine (textNumber fault) (textPlace fault)) ⌝ }
 {
@@ -49,7 +49,7 @@ fn put_fault(out: &mut Vec<u8>, fault: TextFault) -> Result<(), AllocError>
     )
 }
 
-// What is printed for a text; want of memory is the only error.
+/// What is printed for a text; want of memory is the only error.
 pub fn report(heap: Global, text: &[u8]) -> Result<Vec<u8>, AllocError>
     ensures { λ r. ⌜ made r (λ out. vec-items out ≡ reported (now (text .entry))) ⌝ }
 {

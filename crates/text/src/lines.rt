@@ -1,3 +1,4 @@
+//! Lines and fields: parts of the text, each with its place.
 ghost use mathlib.Core.Path.{_≡_};
 ghost use mathlib.Core.List.{List, [], _∷_};
 ghost use Prim.Native.Nat.{ℕ, _+_, _-_, _<_, _≤_};
@@ -8,12 +9,12 @@ ghost use Rattle.text.specs.Checks.{allowed, each, lineBytes};
 use crate::fault::Place;
 use crate::fault::TextFault;
 
-// The byte that ends a line.
+/// The byte that ends a line.
 pub(crate) const NEWLINE: u8 = 10;
-// The byte that parts two fields.
+/// The byte that parts two fields.
 pub(crate) const TAB: u8 = 9;
 
-// How many bytes stand before the first `c`.
+/// How many bytes stand before the first `c`.
 pub(crate) fn span(s: &[u8], c: u8) -> usize
     ensures value { λ r. ⌜ r ≡ before c (now (s .entry)) ⌝ }
     ensures within { λ r. ⌜ r ≤ length (now (s .entry)) ⌝ }
@@ -26,7 +27,7 @@ pub(crate) fn span(s: &[u8], c: u8) -> usize
     s.len()
 }
 
-// How many parts `c` makes of `s`.
+/// How many parts `c` makes of `s`.
 pub(crate) fn count_parts(s: &[u8], c: u8) -> usize
     ensures { λ r. ⌜ r ≡ length (partedBy c (now (s .entry))) ⌝ }
 {
@@ -56,14 +57,14 @@ fn all_allowed(bytes: &[u8]) -> bool
     true
 }
 
-// A field of a line: a part of the text, with its place.
+/// A field of a line: a part of the text, with its place.
 #[derive(Clone, Copy)]
 pub struct Field<'a> {
     pub bytes: &'a [u8],
     pub place: Place,
 }
 
-// A line of a text, without the byte that ends it, with its number.
+/// A line of a text, without the byte that ends it, with its number.
 #[derive(Clone, Copy)]
 pub struct Line<'a> {
     pub bytes: &'a [u8],
@@ -71,7 +72,7 @@ pub struct Line<'a> {
 }
 
 impl<'a> Line<'a> {
-    // Fault 3 where a byte may not stand in a line.
+    /// Fault 3 where a byte may not stand in a line.
     pub fn check_bytes(self) -> Result<(), TextFault>
         ensures { λ r. ⌜ r ≡ lineBytes (self .entry .number) (now (self .entry .bytes)) ⌝ }
     {
@@ -81,7 +82,7 @@ impl<'a> Line<'a> {
         Err(TextFault::BadByte { line: self.number })
     }
 
-    // How many fields the line has: at least one. The fields with tabs between them are the line.
+    /// How many fields the line has: at least one. The fields with tabs between them are the line.
     pub fn count(self) -> usize
         ensures value { λ r. ⌜ r ≡ length (fieldsOf (now (self .entry .bytes))) ⌝ }
         ensures lossless { λ _. ⌜ FieldsMake (now (self .entry .bytes)) (fieldsOf (now (self .entry .bytes))) ⌝ }
@@ -89,7 +90,7 @@ impl<'a> Line<'a> {
         count_parts(self.bytes, TAB)
     }
 
-    // The field with index `k`, counted from 0; its place counts from 1.
+    /// The field with index `k`, counted from 0; its place counts from 1.
     pub fn field(self, k: usize) -> Option<Field<'a>>
         ensures { λ r. ⌜ Cases r (length (fieldsOf (now (self .entry .bytes))) ≤ k) (λ f. (k < length (fieldsOf (now (self .entry .bytes)))) × (now (f .bytes) ≡ getD (fieldsOf (now (self .entry .bytes))) k []) × (f .place ≡ record { line = self .entry .number; field = k + 1 })) ⌝ }
     {

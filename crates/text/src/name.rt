@@ -6,7 +6,7 @@ ghost use Rattle.text.specs.Names.{isName};
 
 pub mod methods;
 
-// The name of an event: 1 to 12 of the bytes A-Z, a-z, 0-9 and _, the first `len` of `bytes`.
+/// The name of an event: 1 to 12 of the bytes A-Z, a-z, 0-9 and _, the first `len` of `bytes`.
 #[derive(Clone, Copy)]
 pub struct Name {
     bytes: [u8; 12],

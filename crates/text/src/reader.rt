@@ -4,7 +4,7 @@ ghost use lib.ListN.{length};
 
 pub mod methods;
 
-// A reader over a lent text, which hands out its lines one after another.
+/// A reader over a lent text, which hands out its lines one after another.
 #[derive(Drop)]
 pub struct Reader<'a> {
     // what has not been handed out yet

@@ -4,7 +4,7 @@ ghost use lib.ListN.{length};
 
 pub mod methods;
 
-// A number as text: the first `len` of `bytes`. No number of 64 bits is longer.
+/// A number as text: the first `len` of `bytes`. No number of 64 bits is longer.
 #[derive(Clone, Copy)]
 pub struct Numeral {
     bytes: [u8; 20],

@@ -1,3 +1,4 @@
+//! Names made from bytes, and compared with bytes.
 ghost use mathlib.Core.Path.{_≡_};
 ghost use mathlib.Core.Bool.{false};
 ghost use Rattle.std.specs.Options.{Cases};
@@ -7,7 +8,7 @@ ghost use Rattle.text.specs.Names.{nameByte, isName};
 ghost use Rattle.text.specs.Spelled.{spelled};
 use crate::name::Name;
 
-// The most bytes that a name may have.
+/// The most bytes that a name may have.
 pub const MAX_LEN: usize = 12;
 
 fn is_name_byte(b: u8) -> bool
@@ -34,7 +35,7 @@ fn same_bytes(a: &[u8], b: &[u8]) -> bool
 }
 
 impl Name {
-    // The name that is written so, or None where these bytes are no name.
+    /// The name that is written so, or None where these bytes are no name.
     pub fn new(written: &[u8]) -> Option<Name>
         ensures { λ r. ⌜ Cases r (isName (now (written .entry)) ≡ false) (λ name. spelled name ≡ now (written .entry)) ⌝ }
     {
@@ -47,14 +48,14 @@ impl Name {
         Some(Name { bytes, len })
     }
 
-    // The bytes that write it.
+    /// The bytes that write it.
     pub fn as_bytes(&self) -> &[u8]
         ensures { λ r. ⌜ now r ≡ spelled (now (self .entry)) ⌝ }
     {
         &self.bytes[..self.len]
     }
 
-    // Whether it is written so.
+    /// Whether it is written so.
     pub fn is(&self, written: &[u8]) -> bool
         ensures { λ r. ⌜ Decides r (spelled (now (self .entry)) ≡ now (written .entry)) ⌝ }
     {

@@ -1,3 +1,4 @@
+//! A reader hands out the lines of a text.
 ghost use mathlib.Core.Path.{_≡_};
 ghost use mathlib.Core.Bool.{true};
 ghost use Rattle.text.specs.Checks.{finished};
@@ -9,7 +10,7 @@ use crate::lines::span;
 use crate::reader::Reader;
 
 impl<'a> Reader<'a> {
-    // A reader at the start of a text. Where each line is ended, its lines with their ends are the text.
+    /// A reader at the start of a text. Where each line is ended, its lines with their ends are the text.
     pub fn new(text: &'a [u8]) -> Reader<'a>
         ensures begins { λ r. ⌜ Begins (now (text .entry)) r ⌝ }
         ensures lossless { λ r. ⌜ (finished (now (text .entry)) ≡ true → LinesMake (now (text .entry)) (toCome r)) ⌝ }
@@ -20,7 +21,7 @@ impl<'a> Reader<'a> {
         }
     }
 
-    // The next line, or None at the end of the text.
+    /// The next line, or None at the end of the text.
     pub fn next_line(&mut self) -> Option<Line<'a>>
         ensures { λ r. ⌜ HandsOut (now (self .entry)) r (now (self .exit)) ⌝ }
     {

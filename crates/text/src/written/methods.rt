@@ -1,3 +1,4 @@
+//! Numbers written as numerals.
 ghost use mathlib.Core.Path.{_≡_};
 ghost use mathlib.Core.List.{[], _∷_, _++_};
 ghost use Prim.Native.Nat.{_+_, _<_, _≤_};
@@ -10,7 +11,7 @@ ghost use Rattle.text.specs.Spelled.{digitsOf};
 use crate::written::Numeral;
 
 impl Numeral {
-    // The numeral of a natural number; reading it gives the number back.
+    /// The numeral of a natural number; reading it gives the number back.
     pub fn natural(n: u64) -> Numeral
         ensures written { λ r. ⌜ digitsOf r ≡ decimal n ⌝ }
         ensures read { λ r. ⌜ numeral (digitsOf r) ≡ Some (pos n) ⌝ }
@@ -23,7 +24,7 @@ impl Numeral {
         written
     }
 
-    // The numeral of a signed number; reading it gives the number back.
+    /// The numeral of a signed number; reading it gives the number back.
     pub fn signed(value: i64) -> Numeral
         ensures written { λ r. ⌜ digitsOf r ≡ signed value ⌝ }
         ensures read { λ r. ⌜ numeral (digitsOf r) ≡ Some value ⌝ }
@@ -40,7 +41,7 @@ impl Numeral {
         written
     }
 
-    // The bytes that write it.
+    /// The bytes that write it.
     pub fn as_bytes(&self) -> &[u8]
         ensures { λ r. ⌜ now r ≡ digitsOf (now (self .entry)) ⌝ }
     {

@@ -1,6 +1,7 @@
+use borrow.Author.Needs.{needs}
 use mathlib.Core.Path.{_≡_, sym, ap, _∙_}
 use mathlib.Core.Bool.{true, false}
-use mathlib.Core.List.{List, _∷_, _++_}
+use mathlib.Core.List.{List, [], _∷_, _++_}
 use Prim.Native.Nat.{ℕ}
 use native.Mathlib.Omega.{arith}
 use lib.IntN.{pos, natAbs}
@@ -36,8 +37,9 @@ returns c =
     let fits = c .fits .value in
     let minus : leZ (pos 0) z ≡ false = simp toZ-ofZ at (c .if-value-ge0 .left) in
     let size : c .unsigned-abs-2 .result ≡ natAbs z = simp toZ-ofZ at (c .unsigned-abs-2 .ensures .value) in
+    let sign : digitsOf (c .put-byte .last .self) ≡ 45 ∷ [] = search needs in
     let is : digitsOf (c .put-natural .last .self) ≡ signed z =
     c .put-natural .ensures .bytes
-    ∙ ap (λ (s : List ℕ). s ++ decimal (c .unsigned-abs-2 .result)) (c .put-byte .ensures .bytes)
+    ∙ ap (λ (s : List ℕ). s ++ decimal (c .unsigned-abs-2 .result)) sign
     ∙ ap (λ (n : ℕ). 45 ∷ decimal n) size ∙ sym (signed-minus z minus) in
     record { written = is; read = ap numeral is ∙ numeral-signed z (fits .sfits) }

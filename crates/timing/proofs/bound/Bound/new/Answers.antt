@@ -20,5 +20,5 @@ returns c =
     let same = c .copy-from-slice .ensures .after in
     let is = take-at (c .copy-from-slice .last .self) _ (length terms) (ap length same) ∙ same in
     let made : List Term → BoundModel =
-      λ ts. record { to = c .args .to; kind = c .args .kind; k = c .args .k; terms = map termOf ts } in
+    λ ts. record { to = c .args .to; kind = c .args .kind; k = c .args .k; terms = map termOf ts } in
     ap made is
