@@ -1,2 +1,4 @@
 pub mod Faults
 pub mod Plain
+pub mod Sound
+pub mod Model

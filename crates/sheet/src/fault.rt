@@ -52,15 +52,26 @@ impl CallFault {
 /// Why a call is refused that answers with a number only.
 #[derive(Clone, Copy, PartialEq, Eq)]
 pub enum Refusal {
+    /// The sheet is settled from a number that no event has.
+    NoSuchSource,
+    NoSuchEvent,
     NoSuchBound,
+    /// No timetable keeps the bounds, so there is nothing to read.
+    Contradictory,
+    /// Some timetable keeps the bounds, so there is no knot.
+    NotContradictory,
 }
 
 impl Refusal {
+    /// The number by which users know the refusal.
     pub fn number(self) -> u8
         ensures { λ r. ⌜ r ≡ refusalNumber self ⌝ }
     {
         match self {
+            Refusal::NoSuchSource | Refusal::NoSuchEvent => 10,
             Refusal::NoSuchBound => 15,
+            Refusal::Contradictory => 17,
+            Refusal::NotContradictory => 18,
         }
     }
 }
