@@ -1,1 +1,5 @@
 pub mod Fields
+pub mod LinesMore
+pub mod Needs
+pub mod FromFound
+pub mod LoadedNeeds

@@ -1,1 +1,4 @@
+pub mod Lines
 pub mod Report
+pub mod Puts
+pub mod Known

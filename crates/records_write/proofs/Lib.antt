@@ -1,0 +1,4 @@
+pub mod Lines
+pub mod ReadBack
+pub mod RoundTrip
+pub mod Puts

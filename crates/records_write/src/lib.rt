@@ -1,0 +1,3 @@
+//! A timing sheet written as text.
+mod page;
+pub mod write;

@@ -1,0 +1,4 @@
+pub mod Promises
+pub mod Meant
+pub mod Finding
+pub mod Running

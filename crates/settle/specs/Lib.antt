@@ -1,0 +1,6 @@
+pub mod Held
+pub mod Meaning
+pub mod Promise
+pub mod Model
+pub mod Runs
+pub mod Theorems
