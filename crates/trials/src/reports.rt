@@ -117,6 +117,39 @@ fn findings(rt: LibcRuntime) -> Result<(), Fail> {
     )
 }
 
+#[test]
+fn worked_sheets(rt: LibcRuntime) -> Result<(), Fail> {
+    // the memory with a bound that holds nothing
+    prints(
+        rt.alloc(),
+        b"event\tAV\nevent\tCS\nevent\tDV\ndelay\tDV\tAV\t0\t20\tCS\t0\t20\nlinear\tCS\tDV\t30\t-\nlinear\tAV\tCS\t-\t300\nneed\tAV\tCS\t-11\n",
+        b"need\tAV\tCS\t-11\tbroken\t-10\nat\tAV\t0\nat\tCS\t-10\nat\tDV\t20\n",
+    )?;
+    // three events that hold one another back, and the same without the third bound
+    prints(
+        rt.alloc(),
+        b"event\tA\nevent\tB\nevent\tC\nlimit\t0\t0\tA\tB\t-1\tC\t-1\nlinear\tA\tB\t-\t0\nlinear\tA\tC\t-\t0\n",
+        b"knot\t0\nknot\t1\nknot\t2\n",
+    )?;
+    prints(
+        rt.alloc(),
+        b"event\tA\nevent\tB\nevent\tC\nlimit\t0\t0\tA\tB\t-1\tC\t-1\nlinear\tA\tB\t-\t0\nneed\tA\tB\t-1\n",
+        b"need\tA\tB\t-1\tbroken\t0\nat\tA\t0\nat\tB\t0\nat\tC\t1000000000\n",
+    )?;
+    // an event and itself, and an event alone
+    prints(
+        rt.alloc(),
+        b"event\tA\nlinear\tA\tA\t-\t0\nneed\tA\tA\t0\n",
+        b"need\tA\tA\t0\tmet\t0\n",
+    )?;
+    prints(rt.alloc(), b"event\tA\nlinear\tA\tA\t-\t-1\n", b"knot\t0\n")?;
+    prints(
+        rt.alloc(),
+        b"event\tA\nneed\tA\tA\t-1\n",
+        b"need\tA\tA\t-1\tbroken\t0\nat\tA\t0\n",
+    )
+}
+
 const WRITTEN: &[u8] =
     b"event\tAV\nevent\tCS\nevent\tDV\nlimit\t0\t0\tDV\tAV\t20\tCS\t20\nlimit\t0\t0\tAV\tDV\t0\nlimit\t0\t0\tCS\tDV\t0\nlimit\t0\t0\tCS\tDV\t-30\n";
 
