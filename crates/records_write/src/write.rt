@@ -10,6 +10,7 @@ ghost use Rattle.timing.specs.Model.{BoundModel};
 ghost use Rattle.sheet.specs.Model.{sheetOf};
 ghost use Rattle.records_write.specs.Shown.{shown};
 ghost use Rattle.records_write.specs.Writes.{afterTabs, eventFields, termFields, limitFields, lineOf, written, wroteAnswer, wroteBytes, ShortDelay, ByteSized, LoadsBack};
+ghost use Rattle.records_write.specs.Made.{MadeLoadsBack};
 use crate::page::Page;
 use records_fault::fault::WriteRefusal;
 use rules::RuleSet;
@@ -136,6 +137,7 @@ pub fn write<R: RuleSet>(sheet: &Drawn<R>, out: &mut [u8]) -> Result<usize, Writ
     ensures bytes { λ _. ⌜ now (out .exit) ≡ wroteBytes (written (sheetOf (now (sheet .entry)))) (now (out .entry)) ⌝ }
     ensures short { λ _. ⌜ length (written (sheetOf (now (sheet .entry)))) < 65536 ⌝ }
     ensures back { λ _. ⌜ LoadsBack (R·RuleSet .admitted (now (sheet .entry) .rules)) (sheetOf (now (sheet .entry))) ⌝ }
+    ensures made { λ _. ⌜ MadeLoadsBack (R·RuleSet .admitted (now (sheet .entry) .rules)) (sheetOf (now (sheet .entry))) ⌝ }
 {
     let mut page = Page::new();
     put_events(&mut page, sheet);

@@ -7,6 +7,7 @@ use Rattle.sheet.specs.Model.{sheetOf}
 use Rattle.records_write.specs.Shown.{shown}
 use Rattle.records_write.specs.Writes.{eventFields, limitFields, lineOf, written, wroteAnswer, wroteBytes}
 use Rattle.records_write.proofs.RoundTrip.{round-trip, written-long}
+use Rattle.records_write.proofs.Admitted.{made-admitted}
 use Rattle.records_write.proofs.Puts.{made-of}
 use Rattle.records_write.proofs.write.write.Needs as need
 
@@ -23,4 +24,5 @@ returns g c =
       bytes = c .copy-out .ensures .bytes ∙ ap (λ (t : List ℕ). wroteBytes t (c .args .out .now)) text;
       short = omega (arith, written-long s made);
       back = λ admit slots. round-trip (g .R·RuleSet .admitted (c .args .sheet .now .rules)) slots s made admit;
+      made = λ steps e slots. let rules = g .R·RuleSet .admitted (c .args .sheet .now .rules) in round-trip rules slots s made (made-admitted rules s steps e);
     }
