@@ -1,4 +1,6 @@
 //! An export for timing alone: a text is loaded once and settled many times.
+#![tactic(auto)]
+
 ghost use Rattle.std.specs.Prelude.{◌≡◌, ◌≤◌};
 ghost use Rattle.sheet.specs.Model.{sheet_of};
 ghost use Rattle.embed.specs.Answers.{Answers, Under};

@@ -1,4 +1,6 @@
 //! A rule set as a buyer writes one, with nothing but the public trait, words and lemmas of `rules`.
+#![tactic(auto)]
+
 ghost use Rattle.rules.specs.Added.{admits_with, enough_with};
 ghost use Rattle.buyer.specs.Lead.{lead_added, lead_holds};
 ghost use Rattle.rules.specs.AddedLemmas.{laws_with};

@@ -1,4 +1,6 @@
 //! Reads a timing sheet from standard input and prints what is found.
+#![tactic(auto)]
+
 use std::io::{Read, Write};
 
 /// One byte more than a text may have shows that it is too long.

@@ -2,6 +2,8 @@
 //!
 //! Each call does a whole job: it loads a text, answers, and frees what it took. A refusal is answered as minus its
 //! number, want of memory as -1000. What a call does not fill stays as it was.
+#![tactic(auto)]
+
 ghost use Rattle.embed.specs.Answers.{Answers};
 ghost use Rattle.embed.specs.Exports.{SettlesUnder, JudgesUnder, NumbersUnder};
 ghost use Rattle.embed.specs.Reporting.{TextReports};

@@ -1,4 +1,6 @@
 //! Text records: a timing sheet and its needs, read from text.
+#![tactic(auto)]
+
 pub mod entry;
 mod field;
 mod line;

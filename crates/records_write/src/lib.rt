@@ -1,3 +1,5 @@
 //! A timing sheet written as text.
+#![tactic(auto)]
+
 mod page;
 pub mod write;

@@ -1,4 +1,6 @@
 //! What `check` prints for a text, as a value.
+#![tactic(auto)]
+
 mod findings;
 mod line;
 

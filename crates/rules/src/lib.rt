@@ -2,6 +2,8 @@
 //!
 //! A rule set answers two questions, `admits` and `enough`. `RuleSet` says what an implementation answers and
 //! which laws it owes; `Plain`, `Vote` and `Group` are three of them. A set of terms is a mask, bit i for term i.
+#![tactic(auto)]
+
 ghost use Rattle.std.specs.Prelude.{◌≡◌, ◌<◌};
 ghost use Rattle.rules.specs.Laws.{Admits, Enough, Laws};
 ghost use Rattle.rules.specs.Masks.{all_terms, first_terms, other_terms, is_set};

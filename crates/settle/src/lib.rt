@@ -2,6 +2,7 @@
 //!
 //! `settle` turns a drawn sheet into a settled one, which is only read; `reopen` gives the drawn one back. What is read
 //! is proved to speak of every timetable that keeps the bounds: of one sheet on `settle`, over whole runs on `replay`.
+#![tactic(auto)]
 
 pub mod reading;
 pub mod replay;

@@ -1,4 +1,6 @@
 //! The text of a timing sheet: its bytes, lines and fields, names and numerals, and the faults that these can have.
+#![tactic(auto)]
+
 pub mod checks;
 pub mod fault;
 pub mod lines;

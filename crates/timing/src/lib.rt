@@ -2,6 +2,7 @@
 //!
 //! The definitions stand in specs/: timetables and what they keep, places, separations and knots.
 //! Nothing here computes them; the functions carry theorems of the definitions.
+#![tactic(auto)]
 
 pub mod bound;
 pub mod theorems;

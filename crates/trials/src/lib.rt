@@ -1,4 +1,6 @@
 //! Tests over the public calls of the other crates, apart from them so that a crate is not proved again for its tests.
+#![tactic(auto)]
+
 #[cfg(test)]
 mod calls;
 #[cfg(test)]
