@@ -1,6 +1,7 @@
 -- What settling finds, as it is handed out.
 use Rattle.std.proofs.Common.{◌≡◌, ℕ, ◌<◌, ◌≤◌, Bool, true, false, cond, List, length, get_or, Ok, Err, Result, sym, refl, ap, ◌∙◌, subst, arith}
 use Rattle.std.proofs.lemmas.Bool.{cond-true, lt-ltb}
+use Rattle.rules.specs.declared.RuleSet.{Ghosts}
 use Rattle.rules.specs.Laws.{Enough}
 use Rattle.timing.specs.Timetables.{times}
 use Rattle.sheet.specs.declared.drawn.Drawn.{Drawn}
@@ -56,26 +57,26 @@ module _ (E : Enough) (s : PlainSheet) (source : ℕ) (slots : List EventReading
       let z : ◌≡◌ {A = ℕ} 0 1 = cc in absurd (omega arith)
 
 -- the same of a settled sheet t, which is the drawn sheet d settled from the source
-module _ {R : Type 0} (E : Enough) (d : Drawn R) (source : ℕ) (slots : List EventReading) (flags : List ℕ) (ready : Ready (sheet_of d) source slots flags) where
-  right_from : (t : Settled R) → t.drawn ≡ d → t.source ≡ source → HoldsRight E t → Right E (sheet_of d) source t.found
+module _ {R : Type 0} {G : Ghosts R} (E : Enough) (d : Drawn R G) (source : ℕ) (slots : List EventReading) (flags : List ℕ) (ready : Ready (sheet_of d) source slots flags) where
+  right_from : (t : Settled R G) → t.drawn ≡ d → t.source ≡ source → HoldsRight E t → Right E (sheet_of d) source t.found
   right_from t moved from right =
-      subst (λ (x : Drawn R). Right E (sheet_of x) source t.found) moved (subst (λ (k : ℕ). Right E (standing t) k t.found) from right)
+      subst (λ (x : Drawn R G). Right E (sheet_of x) source t.found) moved (subst (λ (k : ℕ). Right E (standing t) k t.found) from right)
 
-  pub knot_handed : (t : Settled R) (refusal : Refusal) (flags' : List ℕ) → t.drawn ≡ d → t.source ≡ source → HoldsRight E t
+  pub knot_handed : (t : Settled R G) (refusal : Refusal) (flags' : List ℕ) → t.drawn ≡ d → t.source ≡ source → HoldsRight E t
       → Err refusal ≡ read_of t source → flags' ≡ filled (λ i. flag_said (knot_of t i)) (length (standing t).bounds) flags
       → SheetSettles E (sheet_of d) source slots flags slots flags' (Err (Sheet refusal))
   knot_handed t refusal flags' moved from right read is =
       let put = knot_filled E (sheet_of d) source slots flags ready t.found refusal (right_from t moved from right)
-      (read ∙ ap (λ (x : Drawn R). read_held (sheet_of x) t.found source) moved) in
-      let all = is ∙ ap (λ (x : Drawn R). filled (λ i. flag_said (knot_held (sheet_of x) t.found i)) (length (sheet_of x).bounds) flags) moved in
+      (read ∙ ap (λ (x : Drawn R G). read_held (sheet_of x) t.found source) moved) in
+      let all = is ∙ ap (λ (x : Drawn R G). filled (λ i. flag_said (knot_held (sheet_of x) t.found i)) (length (sheet_of x).bounds) flags) moved in
       subst (λ (l : List ℕ). SheetSettles E (sheet_of d) source slots flags slots l (Err (Sheet refusal))) (sym all) put
 
-  pub events-handed : (t : Settled R) (x : Reading) (slots' : List EventReading) (n : ℕ) → t.drawn ≡ d → t.source ≡ source → HoldsRight E t
+  pub events-handed : (t : Settled R G) (x : Reading) (slots' : List EventReading) (n : ℕ) → t.drawn ≡ d → t.source ≡ source → HoldsRight E t
       → Ok x ≡ read_of t source → n ≡ events (sheet_of d) → slots' ≡ filled (λ e. slot_said (read_of t e)) (events (standing t)) slots
       → SheetSettles E (sheet_of d) source slots flags slots' flags (Ok n)
   events-handed t x slots' n moved from right read many is =
       let put = events-filled E (sheet_of d) source slots flags ready t.found x (right_from t moved from right)
-      (read ∙ ap (λ (y : Drawn R). read_held (sheet_of y) t.found source) moved) in
-      let all = is ∙ ap (λ (y : Drawn R). filled (λ e. slot_said (read_held (sheet_of y) t.found e)) (events (sheet_of y)) slots) moved in
+      (read ∙ ap (λ (y : Drawn R G). read_held (sheet_of y) t.found source) moved) in
+      let all = is ∙ ap (λ (y : Drawn R G). filled (λ e. slot_said (read_held (sheet_of y) t.found e)) (events (sheet_of y)) slots) moved in
       subst (λ (m : ℕ). SheetSettles E (sheet_of d) source slots flags slots' flags (Ok m)) (sym many)
       (subst (λ (l : List EventReading). SheetSettles E (sheet_of d) source slots flags l flags (Ok (events (sheet_of d)))) (sym all) put)

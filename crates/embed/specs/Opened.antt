@@ -1,5 +1,6 @@
 -- The sheet of a text, loaded with 64 slots for needs.
 use Rattle.std.specs.Prelude.{◌≡◌, ℕ, List, Ok, Err, Result}
+use Rattle.rules.specs.declared.RuleSet.{Ghosts}
 use Rattle.rules.specs.Laws.{Admits}
 use Rattle.sheet.specs.declared.drawn.Drawn.{Drawn}
 use Rattle.sheet.specs.Model.{sheet_of}
@@ -18,7 +19,7 @@ abbrev pub sheet_of_text : Admits → List ℕ → Result PlainSheet LoadFault
 sheet_of_text admits text = sheet_in (loaded admits 64 text)
 
 -- a text was opened as is defined, or memory is wanting
-abbrev pub Opens : {R : Type 0} → Admits → R → List ℕ → Result (Drawn R) Failure → Type 0
+abbrev pub Opens : {R : Type 0} {G : Ghosts R} → Admits → R → List ℕ → Result (Drawn R G) Failure → Type 0
 Opens admits rules text (Ok d) = (sheet_of_text admits text ≡ Ok (sheet_of d)) × (d.rules ≡ rules)
 Opens admits rules text (Err (Text fault)) = sheet_of_text admits text ≡ Err fault
 Opens admits rules text (Err NoMemory) = Unit {0}

@@ -8,6 +8,7 @@ use Rattle.std.proofs.lemmas.List.{append-nil, take_more, flat_map_more, map_mor
 use Rattle.text.specs.Split.{tabbed}
 use Rattle.text.specs.Spelled.{spelled}
 use Rattle.text.specs.declared.name.Name.{Name}
+use Rattle.rules.specs.declared.RuleSet.{Ghosts}
 use Rattle.timing.specs.declared.bound.Bound.{Bound}
 use Rattle.timing.specs.declared.bound.Term.{Term}
 use Rattle.timing.specs.Bounds.{term_of, bound_of}
@@ -99,7 +100,7 @@ all-sized : (bs : List Bound) → All (λ (b : BoundModel). (1 ≤ length b.term
 all-sized [] = tt
 all-sized (b ∷ bs) = (sized b, all-sized bs)
 
-module _ {R : Type 0} (d : Drawn R) where
+module _ {R : Type 0} {G : Ghosts R} (d : Drawn R G) where
   abbrev names : List (List ℕ)
   names = (sheet_of d).names
 

@@ -2,6 +2,7 @@
 use Rattle.std.proofs.Common.{◌≡◌, ℕ, suc, ◌<◌, ◌≤◌, Bool, true, false, List, [], ◌∷◌, map, length, replicate, ℤ, sym, refl, ap, ◌∙◌, subst, arith}
 use Rattle.std.proofs.lemmas.List.{length-map, get_or-replicate}
 use Rattle.std.proofs.lemmas.Bool.{cond-true}
+use Rattle.rules.specs.declared.RuleSet.{Ghosts}
 use Rattle.rules.specs.Laws.{Enough}
 use Rattle.timing.specs.Bounds.{bound_of}
 use Rattle.timing.specs.Limits.{delay_limit}
@@ -25,7 +26,7 @@ those-all chosen [] h = refl
 those-all chosen (x ∷ xs) h =
     cond-true (chosen 0) _ _ (h 0 (omega arith)) ∙ ap (λ l. x ∷ l) (those-all (λ j. chosen (suc j)) xs (λ i l. h (suc i) (omega arith)))
 
-module _ {R : Type 0} (d : Drawn R) (n : ℕ) (count : n ≡ events (sheet_of d)) (bs : List Bound) (standing : map bound_of bs ≡ (sheet_of d).bounds) where
+module _ {R : Type 0} {G : Ghosts R} (d : Drawn R G) (n : ℕ) (count : n ≡ events (sheet_of d)) (bs : List Bound) (standing : map bound_of bs ≡ (sheet_of d).bounds) where
   pub sheet_given : IsSheet 64 delay_limit n (map bound_of bs)
   sheet_given =
       let P : ℕ → Type 0 = λ m. IsSheet 64 delay_limit m (map bound_of bs) in

@@ -2,6 +2,7 @@
 use Rattle.std.proofs.Common.{◌≡◌, ℕ, zero, suc, ◌+◌, ◌<◌, ◌≤◌, ◌⊎◌, List, [], ◌∷◌, ◌++◌, length, get_or, take, drop, sym, refl, ap, ◌∙◌, subst, inl, inr, arith}
 use Rattle.std.proofs.lemmas.List.{take_more, take_all}
 use Rattle.std.proofs.lemmas.Bool.{cases_lt}
+use Rattle.rules.specs.declared.RuleSet.{Ghosts}
 use Rattle.rules.specs.Laws.{Admits, Enough, Laws}
 use Rattle.timing.specs.Limits.{delay_limit}
 use Rattle.timing.specs.Model.{IsSheet}
@@ -65,7 +66,7 @@ pub record Settling (E : Enough) (s : PlainSheet) (source : ℕ) : Type 0 where
   pub right : Right E s source found
   pub sheet : IsSheet 64 delay_limit (events s) s.bounds
 
-settling_in : {R : Type 0} (E : Enough) (x : Sheet R) → RightIn E x → (s : PlainSheet) (source : ℕ) → stage_of x ≡ settled s source → Settling E s source
+settling_in : {R : Type 0} {G : Ghosts R} (E : Enough) (x : Sheet R G) → RightIn E x → (s : PlainSheet) (source : ℕ) → stage_of x ≡ settled s source → Settling E s source
 settling_in E (IsDrawn d) right s source q = absurd (let z : ◌≡◌ {A = ℕ} 0 1 = cc in omega arith)
 settling_in E (IsSettled t) right s source q =
     let same : standing t ≡ s = cc in
@@ -94,15 +95,15 @@ answered A E s source found right (Knot i ∷ cs) (x ∷ xs) r = (
 answered A E s source found right (Reopen ∷ cs) (x ∷ xs) r = tt
 
 -- what a run has done after k calls
-pub record SoFar {R : Type 0} (adm : R → Admits) (suf : R → Enough) (r : R) (m : Stage) (x : Sheet R) (cs : List Call) (k : ℕ) (xs : List Answer) : Type 0 where
+pub record SoFar {R : Type 0} {G : Ghosts R} (adm : R → Admits) (suf : R → Enough) (r : R) (m : Stage) (x : Sheet R G) (cs : List Call) (k : ℕ) (xs : List Answer) : Type 0 where
   pub right : RightIn (suf r) x
   pub rules : rules_in x ≡ r
   pub stage : stage_of x ≡ after_calls (adm r) m (take k cs)
   pub told : EachTold (adm r) (suf r) m (take k cs) xs
   pub settlings : (i : ℕ) → i ≤ k → (s : PlainSheet) (source : ℕ) → after_calls (adm r) m (take i cs) ≡ settled s source → Settling (suf r) s source
 
-module _ {R : Type 0} (adm : R → Admits) (suf : R → Enough) where
-  pub so_far_none : (x : Sheet R) (cs : List Call) (xs : List Answer) → RightIn (suf (rules_in x)) x → xs ≡ [] → SoFar adm suf (rules_in x) (stage_of x) x cs 0 xs
+module _ {R : Type 0} {G : Ghosts R} (adm : R → Admits) (suf : R → Enough) where
+  pub so_far_none : (x : Sheet R G) (cs : List Call) (xs : List Answer) → RightIn (suf (rules_in x)) x → xs ≡ [] → SoFar adm suf (rules_in x) (stage_of x) x cs 0 xs
   so_far_none x cs xs right none =
       let P : List Answer → Type 0 = λ l. EachTold (adm (rules_in x)) (suf (rules_in x)) (stage_of x) [] l in
       record {
@@ -115,7 +116,7 @@ module _ {R : Type 0} (adm : R → Admits) (suf : R → Enough) where
             settling_in (suf (rules_in x)) x right s source (sym (ap (λ j. after_calls (adm (rules_in x)) (stage_of x) (take j cs)) first) ∙ q);
       }
 
-  pub so_far_more : (r : R) (m : Stage) (x y : Sheet R) (cs : List Call) (k : ℕ) (d : Call) (a : Answer) (xs ys : List Answer)
+  pub so_far_more : (r : R) (m : Stage) (x y : Sheet R G) (cs : List Call) (k : ℕ) (d : Call) (a : Answer) (xs ys : List Answer)
       → k < length cs → SoFar adm suf r m x cs k xs → Stepped (adm (rules_in x)) (suf (rules_in x)) x (get_or cs k d) y a → ys ≡ xs ++ a ∷ []
       → SoFar adm suf r m y cs (k + 1) ys
   so_far_more r m x y cs k d a xs ys h so step ey =
@@ -142,11 +143,11 @@ module _ {R : Type 0} (adm : R → Admits) (suf : R → Enough) where
       }
 
   -- after all calls
-  kept : (r : R) → Laws (adm r) (suf r) → (x : Sheet R) → RightIn (suf r) x → KeepsPromise (suf r) x
+  kept : (r : R) → Laws (adm r) (suf r) → (x : Sheet R G) → RightIn (suf r) x → KeepsPromise (suf r) x
   kept r laws (IsDrawn d) right = tt
   kept r laws (IsSettled t) right = λ inside. promise_from laws (standing t) (sheet_is t.drawn) t.source inside t.found right
 
-  whenever : (r : R) → Laws (adm r) (suf r) → (x : Sheet R) (cs : List Call) (xs : List Answer) → SoFar adm suf r (drawn new_sheet) x cs (length cs) xs
+  whenever : (r : R) → Laws (adm r) (suf r) → (x : Sheet R G) (cs : List Call) (xs : List Answer) → SoFar adm suf r (drawn new_sheet) x cs (length cs) xs
       → EachTold (adm r) (suf r) (drawn new_sheet) cs xs → WheneverSettled (adm r) (suf r) cs xs
   whenever r laws x cs xs so told i l s source q inside =
       let one = so.settlings i l s source q in
@@ -157,7 +158,7 @@ module _ {R : Type 0} (adm : R → Admits) (suf : R → Enough) where
         answered (adm r) (suf r) s source one.found one.right (drop i cs) (drop i xs) (subst P q (told-drop (adm r) (suf r) (drawn new_sheet) i cs xs told)),
       )
 
-  all_done : (r : R) → Laws (adm r) (suf r) → (x : Sheet R) (cs : List Call) (xs : List Answer) → SoFar adm suf r (drawn new_sheet) x cs (length cs) xs
+  all_done : (r : R) → Laws (adm r) (suf r) → (x : Sheet R G) (cs : List Call) (xs : List Answer) → SoFar adm suf r (drawn new_sheet) x cs (length cs) xs
       → Replays (adm r) (suf r) r cs xs x
   all_done r laws x cs xs so =
       let whole = take_all (length cs) cs (omega arith) in
@@ -172,7 +173,7 @@ module _ {R : Type 0} (adm : R → Admits) (suf : R → Enough) where
         last_promised = kept r laws x so.right;
       }
 
-  pub so_far_all : (r : R) → Laws (adm r) (suf r) → (d : Drawn R) (x : Sheet R) (cs : List Call) (k : ℕ) (xs : List Answer)
+  pub so_far_all : (r : R) → Laws (adm r) (suf r) → (d : Drawn R G) (x : Sheet R G) (cs : List Call) (k : ℕ) (xs : List Answer)
       → k ≡ length cs → (sheet_of d ≡ new_sheet) × (d.rules ≡ r) → SoFar adm suf d.rules (drawn (sheet_of d)) x cs k xs
       → Replays (adm r) (suf r) r cs xs x
   so_far_all r laws d x cs k xs end new so =

@@ -1,5 +1,6 @@
 -- Runs of calls on a new sheet: what stands after them, what each call answers, and what is promised over a whole run.
 use Rattle.std.specs.Prelude.{◌≡◌, ℕ, ◌<◌, ◌≤◌, Bool, List, [], ◌∷◌, map, length, take, drop, Result}
+use Rattle.rules.specs.declared.RuleSet.{Ghosts}
 use Rattle.rules.specs.Laws.{Admits, Enough}
 use Rattle.timing.specs.Bounds.{term_of}
 use Rattle.timing.specs.Model.{BoundModel}
@@ -97,32 +98,32 @@ WheneverSettled A E calls answers =
     → (read : ReadAnswers) × (knot : KnotAnswers) × Promise E s source read knot × AnsweredBy read knot (drop i calls) (drop i answers)
 
 -- a sheet of the program: what stands in it, its rules, and whether what it holds is right
-abbrev pub stage_of : {R : Type 0} → Sheet R → Stage
+abbrev pub stage_of : {R : Type 0} {G : Ghosts R} → Sheet R G → Stage
 stage_of (IsDrawn d) = drawn (sheet_of d)
 stage_of (IsSettled t) = settled (standing t) t.source
 
-abbrev pub rules_in : {R : Type 0} → Sheet R → R
+abbrev pub rules_in : {R : Type 0} {G : Ghosts R} → Sheet R G → R
 rules_in (IsDrawn d) = d.rules
 rules_in (IsSettled t) = t.drawn.rules
 
-abbrev pub RightIn : {R : Type 0} → Enough → Sheet R → Type 0
+abbrev pub RightIn : {R : Type 0} {G : Ghosts R} → Enough → Sheet R G → Type 0
 RightIn E (IsDrawn d) = Unit {0}
 RightIn E (IsSettled t) = HoldsRight E t
 
 -- what can be read of it keeps the promise, where it stands settled from one of its events
-abbrev pub KeepsPromise : {R : Type 0} → Enough → Sheet R → Type 0
+abbrev pub KeepsPromise : {R : Type 0} {G : Ghosts R} → Enough → Sheet R G → Type 0
 KeepsPromise E (IsDrawn d) = Unit {0}
 KeepsPromise E (IsSettled t) = t.source < events (standing t) → Promise E (standing t) t.source (read_of t) (knot_of t)
 
 -- one call: from a sheet to the next
-pub record Stepped {R : Type 0} (A : Admits) (E : Enough) (before : Sheet R) (c : Call) (after : Sheet R) (a : Answer) : Type 0 where
+pub record Stepped {R : Type 0} {G : Ghosts R} (A : Admits) (E : Enough) (before : Sheet R G) (c : Call) (after : Sheet R G) (a : Answer) : Type 0 where
   pub told : Told A E (stage_of before) c a
   pub stage : stage_of after ≡ after_call A (stage_of before) c
   pub rules : rules_in after ≡ rules_in before
   pub right : RightIn E after
 
 -- a whole run on a new sheet, with the sheet at the end
-pub record Replays {R : Type 0} (A : Admits) (E : Enough) (rules : R) (calls : List Call) (answers : List Answer) (last : Sheet R) : Type 0 where
+pub record Replays {R : Type 0} {G : Ghosts R} (A : Admits) (E : Enough) (rules : R) (calls : List Call) (answers : List Answer) (last : Sheet R G) : Type 0 where
   pub told : EachTold A E (drawn new_sheet) calls answers
   pub promised : WheneverSettled A E calls answers
   pub stage : stage_of last ≡ stage_after A calls

@@ -12,7 +12,6 @@ use Rattle.timing.specs.Model.{TermModel, BoundModel}
 use Rattle.timing.specs.declared.bound.Bound.{Bound}
 use Rattle.sheet.specs.declared.fault.CallFault.{CallFault}
 use Rattle.sheet.specs.declared.fault.CallFault.TheVariants.{MalformedName, NameTaken, NoSuchEvent, TooManyEvents, TooManyBounds, NotAdmitted}
-use Rattle.sheet.specs.declared.fault.Refusal.{Refusal}
 use Rattle.sheet.specs.declared.fault.Refusal.TheVariants.{NoSuchBound}
 use Rattle.sheet.specs.Plain.{PlainSheet, Outcome, Gives, number_in, refused, named, event_call, terms_fault, unless, bounded, bound_call, struck, strike_call}
 use Rattle.sheet.specs.Sound.{plain_of}

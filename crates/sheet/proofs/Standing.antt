@@ -1,10 +1,11 @@
 -- What later layers need of every drawn sheet: it is a sheet of the timing model, and each event is found by its name.
-use Rattle.std.proofs.Common.{◌≡◌, ℕ, ◌<◌, ◌≤◌, true, List, [], map, length, get_or, Some, vec_items, ap, ◌∙◌, arith}
+use Rattle.std.proofs.Common.{◌≡◌, ℕ, ◌<◌, ◌≤◌, true, List, [], length, get_or, Some, vec_items, arith}
 use Rattle.std.specs.List.{AllByRecursion as All}
 use Rattle.std.proofs.ByRecursion.{all_from_every, All-map, All-get_or}
 use Rattle.text.specs.Names.{is_name}
 use Rattle.text.specs.Spelled.{spelled}
 use Rattle.text.specs.declared.name.Name.{Name}
+use Rattle.rules.specs.declared.RuleSet.{Ghosts}
 use Rattle.timing.specs.Limits.{delay_limit}
 use Rattle.timing.specs.Model.{IsSheet, BoundWithin}
 use Rattle.sheet.specs.declared.drawn.Drawn.{Drawn}
@@ -17,7 +18,7 @@ use Rattle.sheet.proofs.Terms.{terms_within}
 names_are : (ns : List Name) → All (λ (n : Name). is_name (spelled n) ≡ true) ns
 names_are ns = all_from_every (λ (n : Name). is_name (spelled n) ≡ true) ns (λ i d _ _. (get_or ns i d).named)
 
-module _ {R : Type 0} (d : Drawn R) where
+module _ {R : Type 0} {G : Ghosts R} (d : Drawn R G) where
   pub few_events : length (sheet_of d).names ≤ 64
   few_events = omega (arith, event_count d.names d.bounds, d.few)
 

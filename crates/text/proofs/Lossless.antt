@@ -1,10 +1,10 @@
 -- Lines put together again are the text, and fields the line.
-use Rattle.std.proofs.Common.{◌≡◌, ℕ, suc, ◌+◌, ◌-◌, ◌<◌, Bool, true, false, cond, ◌||◌, eqb, List, [], ◌∷◌, ◌++◌, length, get_or, sym, refl, ap, ◌∙◌, subst, ⊎_elim, arith}
+use Rattle.std.proofs.Common.{◌≡◌, ℕ, suc, ◌-◌, ◌<◌, true, false, cond, eqb, List, [], ◌∷◌, ◌++◌, length, get_or, sym, refl, ap, ◌∙◌, subst, ⊎_elim, arith}
 use Rattle.std.specs.List.{flat_map, AllByRecursion as All}
 use Rattle.std.proofs.lemmas.Bool.{cond-true, cond-false, eqb-true, cases_Bool, both_ways}
 use Rattle.std.proofs.lemmas.Bool.Decides.{nat_tests}
 use Rattle.text.specs.Checks.{finished}
-use Rattle.text.specs.Split.{onto, ended_by, parted_by, fields_of, lines_of, Lacks, tabbed, LinesMake, FieldsMake}
+use Rattle.text.specs.Split.{onto, fields_of, lines_of, Lacks, tabbed, LinesMake, FieldsMake}
 use Rattle.text.proofs.Splits.{ended_cut, parted_some}
 
 -- a byte that is no c, put in front of parts that lack c

@@ -1,5 +1,5 @@
 -- How a text is cut: into lines, each ended by byte 10, and a line into fields, parted by byte 9.
-use Rattle.std.specs.Prelude.{◌≡◌, ℕ, Bool, true, false, cond, not, List, [], ◌∷◌, ◌++◌, ◌==◌}
+use Rattle.std.specs.Prelude.{◌≡◌, ℕ, false, cond, not, List, [], ◌∷◌, ◌++◌, ◌==◌}
 use Rattle.std.specs.List.{flat_map, prefix_len, AllByRecursion as All}
 
 -- how many bytes stand before the first c

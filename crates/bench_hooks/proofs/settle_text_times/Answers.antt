@@ -7,9 +7,9 @@ use Rattle.bench_hooks.proofs.settle_text_times.Goals as goal
 
 pub returns : goal.returns
 returns g c =
-    let told = c.in-ok-sheet.ensures in
-    let sheet = c.in-ok-sheet.sheet in
-    let count = c.settle-sheet-times.result in
-    let by = subst (λ rules. Counts (g.R.RuleSet.suffices rules) (sheet_of sheet) c.args.source c.args.times count) told.1 c.settle-sheet-times.ensures in
+    let told = c.in_ok-sheet.ensures in
+    let sheet = c.in_ok-sheet.sheet in
+    let count = c.settle_sheet_times.result in
+    let by = subst (λ rules. Counts (g.R.RuleSet.suffices rules) (sheet_of sheet) c.args.source c.args.times count) told.1 c.settle_sheet_times.ensures in
     inr (subst (λ (said : Result PlainSheet LoadFault). CountsLoaded (g.R.RuleSet.suffices c.args.rules) said c.args.source c.args.times (Ok count))
     (sym told.0) (count, by, refl))

@@ -9,8 +9,8 @@ use Rattle.report.specs.Report.{Findings, ReportsLoaded}
 use Rattle.report.proofs.LoadedNeeds.{Loads, loads, needs_known}
 use Rattle.report.proofs.report.Goals as goal
 
-pub put-findings-requires : goal.put-findings-requires
-put-findings-requires c =
+pub put_findings-requires : goal.put_findings-requires
+put_findings-requires c =
     let text = c.args.text.now in
     let told = c.in-Ok.ensures in
     let l = loads (loaded vote_admits 64 text) c.in-Ok.count 64 (sheet_of c.load.new.sheet) c.load.new.slots told.answer told.sheet told.slots in
@@ -21,8 +21,8 @@ returns c =
     let text = c.args.text.now in
     let told = c.in-Ok.ensures in
     let l = loads (loaded vote_admits 64 text) c.in-Ok.count 64 (sheet_of c.load.new.sheet) c.load.new.slots told.answer told.sheet told.slots in
-    let out = vec_items c.put-findings.new.out in
-    let put = c.in-ok-put-findings.ensures in
+    let out = vec_items c.put_findings.new.out in
+    let put = c.in_ok-put_findings.ensures in
     let all : out ≡ put.0 = put.2 ∙ ap (λ (before : List ℕ). before ++ put.0) c.new-out.ensures.items in
     let found = subst (Findings (sheet_of c.load.new.sheet) (take c.in-Ok.count c.load.new.slots)) (sym all) put.1 in
     let same = subst (λ (s : PlainSheet). Findings s (take c.in-Ok.count c.load.new.slots) out) l.sheet_is found in

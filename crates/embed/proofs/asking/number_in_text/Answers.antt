@@ -4,7 +4,7 @@ use Rattle.sheet.proofs.Standing.{few_events}
 use Rattle.embed.proofs.Questions.{number_below}
 use Rattle.embed.proofs.asking.number_in_text.Goals as goal
 
-pub overflow-cast-result : goal.overflow-cast-result
-overflow-cast-result g c =
-    let below = number_below (sheet_of c.in-ok-sheet.sheet).names c.args.name.now c.in-Some.number c.in-Some.ensures in
-    omega (arith, below, few_events c.in-ok-sheet.sheet)
+pub overflow_cast-result : goal.overflow_cast-result
+overflow_cast-result g c =
+    let below = number_below (sheet_of c.in_ok-sheet.sheet).names c.args.name.now c.in-Some.number c.in-Some.ensures in
+    omega (arith, below, few_events c.in_ok-sheet.sheet)

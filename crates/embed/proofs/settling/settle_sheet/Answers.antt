@@ -12,10 +12,10 @@ returns-in-Err g c =
     let ready : Ready (sheet_of c.args.sheet) c.args.source c.args.events.now c.args.knot.now =
     record { known = omega arith; wide = omega arith; long = omega arith } in
     knot_handed (g.R.RuleSet.suffices c.args.sheet.rules) c.args.sheet c.args.source c.args.events.now c.args.knot.now ready
-    t c.in-Err.refusal _ told.moved told.from told.right c.in-Err.ensures.held c.fill-knot.ensures
+    t c.in-Err.refusal _ told.moved told.from told.right c.in-Err.ensures.held c.fill_knot.ensures
 
-pub overflow-cast-result : goal.overflow-cast-result
-overflow-cast-result g c = omega (arith, few_events c.args.sheet)
+pub overflow_cast-result : goal.overflow_cast-result
+overflow_cast-result g c = omega (arith, few_events c.args.sheet)
 
 pub returns : goal.returns
 returns g c =
@@ -24,4 +24,4 @@ returns g c =
     let ready : Ready (sheet_of c.args.sheet) c.args.source c.args.events.now c.args.knot.now =
     record { known = omega arith; wide = omega arith; long = omega arith } in
     events-handed (g.R.RuleSet.suffices c.args.sheet.rules) c.args.sheet c.args.source c.args.events.now c.args.knot.now ready
-    t c.in-default.field-0 _ _ told.moved told.from told.right c.in-default.ensures.held c.event-count-count.ensures c.fill-events.ensures
+    t c.in_default.field-0 _ _ told.moved told.from told.right c.in_default.ensures.held c.event_count-count.ensures c.fill_events.ensures

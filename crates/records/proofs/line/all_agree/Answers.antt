@@ -5,8 +5,8 @@ use Rattle.records.specs.Entries.{input_agrees}
 use Rattle.records.proofs.Groups.{each_more, each_stop}
 use Rattle.records.proofs.line.all_agree.Goals as goal
 
-pub returns-then-not-sides-agree : goal.returns-then-not-sides-agree
-returns-then-not-sides-agree c = search (rules, each_stop input_agrees)
+pub returns-then-not-sides_agree : goal.returns-then-not-sides_agree
+returns-then-not-sides_agree c = search (rules, each_stop input_agrees)
 
 pub loop-input-preserved : goal.loop-input-preserved
 loop-input-preserved c = search (rules, each_more input_agrees)

@@ -14,7 +14,7 @@ returns-in-Some g c =
     let f : SFits w32 low = search rules in
     let e : to_z w64 (of_z w64 (pos 0 -ℤ to_z w64 (of_z w64 (to_z w32 (of_z w32 low))))) ≡ neg_ℤ low = omega (arith, ints) in
     record {
-      adds = c.add-bound.ensures.adds
+      adds = c.add_bound.ensures.adds
           ∙ ap (λ (z : ℤ). bound_added A c.args.line s (plain_bound c.args.from c.args.to z)) e
           ∙ sym (bound_alone A c.args.line s (plain_bound c.args.from c.args.to (neg_ℤ low)))
           ∙ ap (λ (o : Option ℤ). bounds_added A c.args.line s (low_bound c.args.from c.args.to o)) (sym c.in-Some.is);

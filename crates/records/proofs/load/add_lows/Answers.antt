@@ -14,8 +14,8 @@ use Rattle.records.proofs.load.add_lows.Goals as goal
 abbrev none : Input
 none = record { from = 0; low = None; high = pos 0 }
 
-pub add-low-requires : goal.add-low-requires
-add-low-requires g c =
+pub add_low-requires : goal.add_low-requires
+add_low-requires g c =
     let lt : c.loop-input.input-index < length c.args.inputs.now = omega arith in
     let kept = bounds_keep_names (g.R.RuleSet.admitted c.args.sheet.now.rules) c.args.line (sheet_of c.args.sheet.now) (sheet_of c.loop-input.sheet)
     (low_bounds c.args.to (take c.loop-input.input-index c.args.inputs.now)) c.loop-input.invariant.0 in
@@ -23,17 +23,17 @@ add-low-requires g c =
     (low_bound (get_or c.args.inputs.now c.loop-input.input-index none).from c.args.to (get_or c.args.inputs.now c.loop-input.input-index none).low)) (sym kept)
     (low_of c.args.to c.args.inputs.now c.loop-input.input-index none lt (BoundWithin (length (sheet_of c.args.sheet.now).names) delay_limit) c.requires)
 
-pub returns-in-err-add-low : goal.returns-in-err-add-low
-returns-in-err-add-low g c =
-    let p = err_from_is_err_and c.from-residual.result c.from-residual.ensures.1 in
+pub returns-in_err-add_low : goal.returns-in_err-add_low
+returns-in_err-add_low g c =
+    let p = err_from_is_err_and c.from_residual.result c.from_residual.ensures.1 in
     let lt : c.loop-input.input-index < length c.args.inputs.now = omega arith in
     record {
       adds = rw (p.1, p.2)
           (lows-stop c.args.to c.args.inputs.now c.loop-input.input-index none lt
           (g.R.RuleSet.admitted c.args.sheet.now.rules) (g.R.RuleSet.admitted c.loop-input.sheet.rules) (ap g.R.RuleSet.admitted c.loop-input.invariant.1)
-          c.args.line (sheet_of c.args.sheet.now) (sheet_of c.loop-input.sheet) c.loop-input.invariant.0 c.in-err-add-low.field-0.0
-          c.in-err-add-low.ensures.adds);
-      keeps = c.add-low.ensures.keeps ∙ c.loop-input.invariant.1;
+          c.args.line (sheet_of c.args.sheet.now) (sheet_of c.loop-input.sheet) c.loop-input.invariant.0 c.in_err-add_low.field-0.0
+          c.in_err-add_low.ensures.adds);
+      keeps = c.add_low.ensures.keeps ∙ c.loop-input.invariant.1;
     }
 
 pub loop-input-preserved : goal.loop-input-preserved
@@ -41,8 +41,8 @@ loop-input-preserved g c =
     let lt : c.loop-input.input-index < length c.args.inputs.now = omega arith in (
       lows-more c.args.to c.args.inputs.now c.loop-input.input-index none lt
           (g.R.RuleSet.admitted c.args.sheet.now.rules) (g.R.RuleSet.admitted c.loop-input.sheet.rules) (ap g.R.RuleSet.admitted c.loop-input.invariant.1)
-          c.args.line (sheet_of c.args.sheet.now) (sheet_of c.loop-input.sheet) c.loop-input.invariant.0 (sheet_of c.add-low.new.sheet) c.in-ok-add-low.ensures.adds,
-      c.add-low.ensures.keeps ∙ c.loop-input.invariant.1,
+          c.args.line (sheet_of c.args.sheet.now) (sheet_of c.loop-input.sheet) c.loop-input.invariant.0 (sheet_of c.add_low.new.sheet) c.in_ok-add_low.ensures.adds,
+      c.add_low.ensures.keeps ∙ c.loop-input.invariant.1,
     )
 
 pub returns : goal.returns

@@ -8,7 +8,7 @@ apply-requires g c = (
   c.requires.0,
   (
     c.requires.1,
-    said_fits (sheet_of c.args.sheet.now).names c.args.line.number c.args.line.bytes.now (said_by c.in-ok-entry.entry)
-        c.in-ok-entry.ensures,
+    said_fits (sheet_of c.args.sheet.now).names c.args.line.number c.args.line.bytes.now (said_by c.in_ok-entry.entry)
+        c.in_ok-entry.ensures,
   ),
 )

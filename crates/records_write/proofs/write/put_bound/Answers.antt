@@ -13,9 +13,9 @@ returns g c =
     let b = bound_of c.args.bound.now in
     let names = (sheet_of c.args.sheet.now).names in
     let whole = put_6 s (codes "limit") (9 ∷ decimal c.kind.result) (9 ∷ decimal c.k.result) (9 ∷ get_or names c.to.result [])
-    (after_tabs (term_fields names (map term_of c.terms.result.now))) (10 ∷ []) (shown c.put.new.self) (shown c.put-number.new.page) (shown c.put-number-2.new.page)
-    (shown c.put-name.new.page) (shown c.put-terms.new.page) (shown c.put-byte.new.self)
-    c.put.ensures.text c.put-number.ensures.text c.put-number-2.ensures.text c.put-name.ensures.text c.put-terms.ensures.text c.put-byte.ensures.text in
+    (after_tabs (term_fields names (map term_of c.terms.result.now))) (10 ∷ []) (shown c.put.new.self) (shown c.put_number.new.page) (shown c.put_number-2.new.page)
+    (shown c.put_name.new.page) (shown c.put_terms.new.page) (shown c.put_byte.new.self)
+    c.put.ensures.text c.put_number.ensures.text c.put_number-2.ensures.text c.put_name.ensures.text c.put_terms.ensures.text c.put_byte.ensures.text in
     record {
       text = whole
           ∙ ap (λ (n : ℕ). s ++ ((codes "limit" ++ ((9 ∷ decimal n) ++ ((9 ∷ decimal c.k.result) ++ ((9 ∷ get_or names c.to.result [])
@@ -31,11 +31,11 @@ returns g c =
       len = omega (
         arith,
         c.put.ensures.len,
-        c.put-number.ensures.len,
-        c.put-number-2.ensures.len,
-        c.put-name.ensures.len,
-        c.put-terms.ensures.len,
-        c.put-byte.ensures.len,
+        c.put_number.ensures.len,
+        c.put_number-2.ensures.len,
+        c.put_name.ensures.len,
+        c.put_terms.ensures.len,
+        c.put_byte.ensures.len,
         c.terms.ensures.most,
       );
       bytes = (search rules, search rules);

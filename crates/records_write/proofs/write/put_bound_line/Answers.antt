@@ -7,8 +7,8 @@ use Rattle.records_write.specs.Writes.{limit_fields, line_of, ByteSized}
 use Rattle.records_write.proofs.Puts.{nth_some, nth_stands, delays_short}
 use Rattle.records_write.proofs.write.put_bound_line.Goals as goal
 
-pub put-bound-requires : goal.put-bound-requires
-put-bound-requires g c =
+pub put_bound-requires : goal.put_bound-requires
+put_bound-requires g c =
     let b = bound_of c.in-Some.bound in
     (c.requires.0, delays_short c.args.sheet.now c.args.number b c.requires.1 (nth_some (sheet_of c.args.sheet.now).bounds c.args.number b b c.in-Some.ensures))
 
@@ -21,8 +21,8 @@ returns g c =
     let bounds = (sheet_of c.args.sheet.now).bounds in
     let names = (sheet_of c.args.sheet.now).names in
     record {
-      text = λ d. c.put-bound.ensures.text
+      text = λ d. c.put_bound.ensures.text
           ∙ ap (λ (m : BoundModel). shown c.args.page.now ++ line_of (limit_fields names m)) (nth_some bounds c.args.number b d c.in-Some.ensures);
-      len = c.put-bound.ensures.len;
-      bytes = λ d. subst ByteSized (nth_some bounds c.args.number b d c.in-Some.ensures) c.put-bound.ensures.bytes;
+      len = c.put_bound.ensures.len;
+      bytes = λ d. subst ByteSized (nth_some bounds c.args.number b d c.in-Some.ensures) c.put_bound.ensures.bytes;
     }

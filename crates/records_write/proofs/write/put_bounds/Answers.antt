@@ -13,28 +13,28 @@ use Rattle.records_write.proofs.write.put_bounds.Goals as goal
 abbrev none : BoundModel
 none = record { to = 0; kind = 0; k = 0; terms = [] }
 
-pub put-bound-line-requires : goal.put-bound-line-requires
-put-bound-line-requires g c =
-    (omega (arith, few_bounds c.args.sheet.now, c.bound-count-number-end.ensures), omega (arith, c.bound-count-number-end.ensures))
+pub put_bound_line-requires : goal.put_bound_line-requires
+put_bound_line-requires g c =
+    (omega (arith, few_bounds c.args.sheet.now, c.bound_count-number-end.ensures), omega (arith, c.bound_count-number-end.ensures))
 
 pub loop-number-preserved : goal.loop-number-preserved
 loop-number-preserved g c =
     let names = (sheet_of c.args.sheet.now).names in
     let bounds = (sheet_of c.args.sheet.now).bounds in
-    let lt : c.loop-number.number < length (sheet_of c.args.sheet.now).bounds = omega (arith, c.bound-count-number-end.ensures) in (
-      pieces_more (λ b. line_of (limit_fields names b)) (shown c.args.page.now) (shown c.loop-number.page) (shown c.put-bound-line.new.page) bounds c.loop-number.number none lt
-          c.loop-number.invariant.0 (c.put-bound-line.ensures.text none),
-      omega (arith, c.put-bound-line.ensures.len),
-      All-more ByteSized bounds c.loop-number.number none lt c.loop-number.invariant.2 (c.put-bound-line.ensures.bytes none),
+    let lt : c.loop-number.number < length (sheet_of c.args.sheet.now).bounds = omega (arith, c.bound_count-number-end.ensures) in (
+      pieces_more (λ b. line_of (limit_fields names b)) (shown c.args.page.now) (shown c.loop-number.page) (shown c.put_bound_line.new.page) bounds c.loop-number.number none lt
+          c.loop-number.invariant.0 (c.put_bound_line.ensures.text none),
+      omega (arith, c.put_bound_line.ensures.len),
+      All-more ByteSized bounds c.loop-number.number none lt c.loop-number.invariant.2 (c.put_bound_line.ensures.bytes none),
     )
 
 pub returns : goal.returns
 returns g c =
     let names = (sheet_of c.args.sheet.now).names in
     let all : take c.loop-number.number (sheet_of c.args.sheet.now).bounds ≡ (sheet_of c.args.sheet.now).bounds =
-    take_all c.loop-number.number (sheet_of c.args.sheet.now).bounds (omega (arith, c.bound-count-number-end.ensures)) in
+    take_all c.loop-number.number (sheet_of c.args.sheet.now).bounds (omega (arith, c.bound_count-number-end.ensures)) in
     record {
       text = c.loop-number.invariant.0 ∙ ap (λ (l : List BoundModel). shown c.args.page.now ++ flat_map (λ b. line_of (limit_fields names b)) l) all;
-      len = omega (arith, few_bounds c.args.sheet.now, c.bound-count-number-end.ensures);
+      len = omega (arith, few_bounds c.args.sheet.now, c.bound_count-number-end.ensures);
       bytes = subst (All ByteSized) all c.loop-number.invariant.2;
     }

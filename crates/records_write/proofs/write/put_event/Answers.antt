@@ -5,7 +5,7 @@ use Rattle.records_write.proofs.write.put_event.Goals as goal
 
 pub returns : goal.returns
 returns c = record {
-  text = put_3 (shown c.args.page.now) (codes "event") (9 ∷ c.args.name.now) (10 ∷ []) (shown c.put.new.self) (shown c.put-field.new.self) (shown c.put-byte.new.self)
-      c.put.ensures.text c.put-field.ensures.text c.put-byte.ensures.text;
+  text = put_3 (shown c.args.page.now) (codes "event") (9 ∷ c.args.name.now) (10 ∷ []) (shown c.put.new.self) (shown c.put_field.new.self) (shown c.put_byte.new.self)
+      c.put.ensures.text c.put_field.ensures.text c.put_byte.ensures.text;
   len = search rules;
 }

@@ -13,8 +13,8 @@ pub returns : goal.returns
 returns g c =
     let names = (sheet_of c.args.sheet.now).names in
     record {
-      text = c.put-event.ensures.text
+      text = c.put_event.ensures.text
           ∙ ap (λ (l : List ℕ). shown c.args.page.now ++ line_of (event_fields l))
-          (c.as-bytes.ensures ∙ nth_some names c.args.event (spelled c.in-Some.name) [] c.in-Some.ensures);
-      len = omega (arith, c.put-event.ensures.len, ap length c.as-bytes.ensures, name_short c.in-Some.name);
+          (c.as_bytes.ensures ∙ nth_some names c.args.event (spelled c.in-Some.name) [] c.in-Some.ensures);
+      len = omega (arith, c.put_event.ensures.len, ap length c.as_bytes.ensures, name_short c.in-Some.name);
     }

@@ -16,8 +16,8 @@ returns g c =
     let f : SFits w64 c.args.term.now.delay = search rules in
     let digits : digits_of c.signed.result ≡ signed_decimal c.args.term.now.delay = simp (to_z-of_z w64 c.args.term.now.delay f) at c.signed.ensures.written in
     record {
-      text = put_2 s (9 ∷ name) (9 ∷ signed_decimal delay) (shown c.put-name.new.page) (shown c.put-field.new.self) c.put-name.ensures.text
-          (c.put-field.ensures.text ∙ ap (λ (l : List ℕ). shown c.put-name.new.page ++ (9 ∷ l)) (c.as-bytes.ensures ∙ digits))
+      text = put_2 s (9 ∷ name) (9 ∷ signed_decimal delay) (shown c.put_name.new.page) (shown c.put_field.new.self) c.put_name.ensures.text
+          (c.put_field.ensures.text ∙ ap (λ (l : List ℕ). shown c.put_name.new.page ++ (9 ∷ l)) (c.as_bytes.ensures ∙ digits))
           ∙ ap (λ (l : List ℕ). s ++ ((9 ∷ name) ++ (9 ∷ l))) (sym (append-nil (signed_decimal delay)));
-      len = omega (arith, c.put-name.ensures.len, c.put-field.ensures.len, ap length (c.as-bytes.ensures ∙ digits), c.requires.1);
+      len = omega (arith, c.put_name.ensures.len, c.put_field.ensures.len, ap length (c.as_bytes.ensures ∙ digits), c.requires.1);
     }

@@ -11,8 +11,8 @@ use Rattle.records_write.proofs.write.put_terms.Goals as goal
 abbrev none : Term
 none = record { from = 0; delay = pos 0 }
 
-pub put-term-requires : goal.put-term-requires
-put-term-requires g c =
+pub put_term-requires : goal.put_term-requires
+put_term-requires g c =
     let lt : c.loop-term.term-index < length c.args.terms.now = omega arith in
     (omega arith, short_at c.args.terms.now c.loop-term.term-index none lt c.requires.1)
 
@@ -20,7 +20,7 @@ pub loop-term-preserved : goal.loop-term-preserved
 loop-term-preserved g c =
     let lt : c.loop-term.term-index < length c.args.terms.now = omega arith in (
       terms_more (sheet_of c.args.sheet.now).names c.args.terms.now c.loop-term.term-index none (shown c.args.page.now) (shown c.loop-term.page)
-          (shown c.put-term.new.page) lt c.loop-term.invariant.0 c.put-term.ensures.text,
+          (shown c.put_term.new.page) lt c.loop-term.invariant.0 c.put_term.ensures.text,
       omega arith,
     )
 

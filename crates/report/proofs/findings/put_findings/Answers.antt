@@ -13,20 +13,20 @@ use Rattle.report.specs.Report.{Findings, NeedsPrinted}
 use Rattle.report.proofs.FromFound.{knot_found, keeping_found}
 use Rattle.report.proofs.findings.put_findings.Goals as goal
 
-pub returns-then-is-contradictory : goal.returns-then-is-contradictory
-returns-then-is-contradictory c =
+pub returns-then-is_contradictory : goal.returns-then-is_contradictory
+returns-then-is_contradictory c =
     let t = c.settle-settled.result in
     let right = subst (λ (k : ℕ). Right vote_enough (sheet_of t.drawn) k t.found) c.settle-settled.ensures.from c.settle-settled.ensures.right in
-    let said = sym c.is-contradictory.ensures ∙ c.if-is-contradictory.true in
+    let said = sym c.is_contradictory.ensures ∙ c.if-is_contradictory.true in
     let found = knot_found (sheet_of t.drawn) c.args.needs.now t.found right said in
     let text : List ℕ = knot_lines (λ (i : ℕ). said_yes (knot_of t i)) (length (sheet_of t.drawn).bounds) in
-    (text, subst (λ (s : PlainSheet). Findings s c.args.needs.now text) (ap sheet_of c.settle-settled.ensures.moved) found, c.in-ok-put-knot.ensures)
+    (text, subst (λ (s : PlainSheet). Findings s c.args.needs.now text) (ap sheet_of c.settle-settled.ensures.moved) found, c.in_ok-put_knot.ensures)
 
-pub put-needs-requires : goal.put-needs-requires
-put-needs-requires c =
+pub put_needs-requires : goal.put_needs-requires
+put_needs-requires c =
     let t = c.settle-settled.result in
     let right = subst (λ (k : ℕ). Right vote_enough (sheet_of t.drawn) k t.found) c.settle-settled.ensures.from c.settle-settled.ensures.right in
-    let said = sym c.is-contradictory.ensures ∙ c.if-is-contradictory.false in
+    let said = sym c.is_contradictory.ensures ∙ c.if-is_contradictory.false in
     let some = keeping_found (sheet_of t.drawn) t.found (sheet_is t.drawn) right said in
     let back = ap sheet_of c.reopen.ensures in
     let whole = back ∙ ap sheet_of c.settle-settled.ensures.moved in
@@ -39,11 +39,11 @@ pub returns : goal.returns
 returns c =
     let t = c.settle-settled.result in
     let right = subst (λ (k : ℕ). Right vote_enough (sheet_of t.drawn) k t.found) c.settle-settled.ensures.from c.settle-settled.ensures.right in
-    let said = sym c.is-contradictory.ensures ∙ c.if-is-contradictory.false in
+    let said = sym c.is_contradictory.ensures ∙ c.if-is_contradictory.false in
     let some = keeping_found (sheet_of t.drawn) t.found (sheet_is t.drawn) right said in
     let moved = ap sheet_of c.settle-settled.ensures.moved in
     let whole = ap sheet_of c.reopen.ensures ∙ moved in
-    let put = c.in-ok-put-needs.ensures in (
+    let put = c.in_ok-put_needs.ensures in (
       put.0,
       inr (subst (λ (s : PlainSheet). Consistent vote_enough s.bounds) moved some, subst (λ (s : PlainSheet). NeedsPrinted s c.args.needs.now put.0) whole put.1),
       put.2,

@@ -17,7 +17,7 @@ loop-need-preserved c =
       ap sheet_of c.reopen-drawn.ensures ∙ same,
       needs_step (sheet_of c.args.sheet) (sheet_of t.drawn) t.found _ _ _ c.args.needs.now c.loop-need.need-index (record { from = 0; to = 0; most = pos 0 })
           t.source same (sheet_is t.drawn) c.requires.some c.requires.known c.loop-need-test.true c.settle-settled.ensures.from
-          c.settle-settled.ensures.right c.loop-need.invariant.1 c.in-ok-put-need.ensures,
+          c.settle-settled.ensures.right c.loop-need.invariant.1 c.in_ok-put_need.ensures,
     )
 
 pub returns : goal.returns

@@ -11,11 +11,11 @@ none_there = record { ref_ptr = (0, 0); now = [] }
 
 pub loop-i-preserved : goal.loop-i-preserved
 loop-i-preserved c =
-    let added = c.in-ok-extend-from-slice.ensures.items in
+    let added = c.in_ok-extend_from_slice.ensures.items in
     elim c.if-i-gt0.branch [
-      | then-i-gt0+in-ok-push w ↦
+      | then-i-gt0+in_ok-push w ↦
           put_next (λ x. x.now) _ _ _ _ _ none_there _ c.loop-i-test.true w.if-i-gt0.true c.loop-i.invariant
-          (ap vec_items w.out-is ∙ w.in-ok-push.ensures.items) added
+          (ap vec_items w.out-is ∙ w.in_ok-push.ensures.items) added
       | else-i-gt0 w ↦
           put_first (λ x. x.now) _ _ _ _ _ none_there c.loop-i-test.true (omega arith) (rw w.out-is c.loop-i.invariant) added
     ]
@@ -23,7 +23,7 @@ loop-i-preserved c =
 pub returns : goal.returns
 returns c =
     let fields = c.args.fields.now in
-    c.in-ok-push-2.ensures.items
+    c.in_ok-push-2.ensures.items
     ∙ ap (λ (l : List ℕ). l ++ (10 ∷ []))
     (c.loop-i.invariant ∙ ap (λ fs. vec_items c.args.out.now ++ tabbed (map (λ x. x.now) fs)) (take_all c.loop-i.i fields c.loop-i-test.false))
     ∙ append_assoc (vec_items c.args.out.now) (tabbed (map (λ x. x.now) fields)) (10 ∷ [])

@@ -3,8 +3,8 @@ use Rattle.std.proofs.lemmas.Int.{to_z-of_z}
 use Rattle.solver.proofs.Reached.{least_permitted, none_after, too_many}
 use Rattle.solver.proofs.latest.latest.Goals as goal
 
-pub returns-then-sums-gt-MAX-TERMS : goal.returns-then-sums-gt-MAX-TERMS
-returns-then-sums-gt-MAX-TERMS g c = too_many (g.met.R.RuleSet.lawful c.args.rules.now) c.args.kind c.args.k c.args.sums.now (omega arith)
+pub returns-then-sums-gt-MAX_TERMS : goal.returns-then-sums-gt-MAX_TERMS
+returns-then-sums-gt-MAX_TERMS g c = too_many (g.met.R.RuleSet.lawful c.args.rules.now) c.args.kind c.args.k c.args.sums.now (omega arith)
 
 pub loop-sum-init : goal.loop-sum-init
 loop-sum-init g c =

@@ -1,4 +1,4 @@
-use Rattle.std.proofs.Common.{◌≡◌, ◌+◌, ◌*◌, ◌%◌, ◌^◌, ◌<◌, ◌≤◌, true, false, length, get_or, pos, sym, refl, ap, ◌∙◌, le_trans, arith, length-take, w64, SFits, rules}
+use Rattle.std.proofs.Common.{◌≡◌, ◌*◌, ◌%◌, ◌^◌, ◌<◌, true, false, length, get_or, pos, sym, refl, ap, ◌∙◌, le_trans, arith, length-take, w64, SFits, rules}
 use lib.Bits.{bit_or}
 use lib.Signed.{le_z}
 use Rattle.std.proofs.lemmas.Int.{ints, to_z-of_z}
@@ -26,8 +26,8 @@ bounds-init g c = pass_start c.rounds.invariant.0 c.rounds.invariant.1 c.rounds.
 pub turn-i-requires : goal.turn-i-requires
 turn-i-requires g c = record { first = c.bounds.invariant.from; step = c.bounds-test.true }
 
-pub bounds-preserved-then-not-takes-part : goal.bounds-preserved-then-not-takes-part
-bounds-preserved-then-not-takes-part g c =
+pub bounds-preserved-then-not-takes_part : goal.bounds-preserved-then-not-takes_part
+bounds-preserved-then-not-takes_part g c =
     let off : flag c.args.chosen.now c.turn-i.result ≡ false = search rules in
     pass_over c.bounds.invariant c.turn-i.result c.turn-i.ensures.inside c.turn-i.ensures.round off
 
@@ -44,8 +44,8 @@ loop-j-init g c =
       formed_start sum ts _ refl,
     )
 
-pub phase-sum-sum-requires : goal.phase-sum-sum-requires
-phase-sum-sum-requires g c =
+pub phase_sum-sum-requires : goal.phase_sum-sum-requires
+phase_sum-sum-requires g c =
     let E = g.R.RuleSet.suffices c.args.rules.now in
     let m = c.loop-j.invariant.0 in
     let in' : c.to-to.result < 64 = (let few = m.few in let to = m.within.0 in omega arith) in
@@ -59,8 +59,8 @@ phase-sum-sum-requires g c =
       inside = in';
     }
 
-pub offset-bounds-y-to : goal.offset-bounds-y-to
-offset-bounds-y-to g c = let few = c.loop-j.invariant.0.few in let to = c.loop-j.invariant.0.within.0 in omega arith
+pub offset_bounds-y-to : goal.offset_bounds-y-to
+offset_bounds-y-to g c = let few = c.loop-j.invariant.0.few in let to = c.loop-j.invariant.0.within.0 in omega arith
 
 pub bounds-y-to : goal.bounds-y-to
 bounds-y-to g c = let few = c.loop-j.invariant.0.few in let to = c.loop-j.invariant.0.within.0 in omega arith
@@ -74,9 +74,9 @@ bounds-preserved g c =
     let to = c.to-to.result in
     let ts = c.terms-terms.result.now in
     let at : SFits w64 (get_or c.bounds.y to (pos 0)) = search rules in
-    let sum : SFits w64 c.phase-sum-sum.result = search rules in
-    let is : c.phase-sum-sum.result ≡ phase_sum x y to (term_of (get_or ts c.loop-j.j no_term)) = search rules in
-    let in' : le_z (y to) c.phase-sum-sum.result ≡ true = (let t = simp to_z-of_z at c.if-y-to.true in grind (arith, ints)) in
+    let sum : SFits w64 c.phase_sum-sum.result = search rules in
+    let is : c.phase_sum-sum.result ≡ phase_sum x y to (term_of (get_or ts c.loop-j.j no_term)) = search rules in
+    let in' : le_z (y to) c.phase_sum-sum.result ≡ true = (let t = simp to_z-of_z at c.if-y-to.true in grind (arith, ints)) in
     let enough : E c.kind-kind.result c.k-k.result (length ts) (bit_or c.loop-j.set ((1 * 2 ^ c.loop-j.j) % 256)) ≡ true = search rules in
     pass_quiet c.bounds.invariant c.turn-i.result c.turn-i.ensures.inside c.turn-i.ensures.round _ c.loop-j.invariant.0.is
     (tally-enough laws to c.kind-kind.result c.k-k.result ts _ c.loop-j.j c.loop-j.set no_term c.terms-terms.ensures.most c.loop-j.invariant.1 c.loop-j-test.true
@@ -91,31 +91,31 @@ loop-j-preserved g c =
     let to = c.to-to.result in
     let ts = c.terms-terms.result.now in
     let at : SFits w64 (get_or c.bounds.y to (pos 0)) = search rules in
-    let sum : SFits w64 c.phase-sum-sum.result = search rules in
-    let is : c.phase-sum-sum.result ≡ phase_sum x y to (term_of (get_or ts c.loop-j.j no_term)) = search rules in (
+    let sum : SFits w64 c.phase_sum-sum.result = search rules in
+    let is : c.phase_sum-sum.result ≡ phase_sum x y to (term_of (get_or ts c.loop-j.j no_term)) = search rules in (
       c.loop-j.invariant.0,
       elim c.if-y-to.branch [
         | then-y-to+else-enough w ↦
-            let in' : le_z (y to) c.phase-sum-sum.result ≡ true = (let t = simp to_z-of_z at w.if-y-to.true in grind (arith, ints)) in
+            let in' : le_z (y to) c.phase_sum-sum.result ≡ true = (let t = simp to_z-of_z at w.if-y-to.true in grind (arith, ints)) in
             let short : E c.kind-kind.result c.k-k.result (length ts) (bit_or c.loop-j.set ((1 * 2 ^ c.loop-j.j) % 256)) ≡ false = search rules in
             rw w.set-is (tally-more laws to c.kind-kind.result c.k-k.result ts _ c.loop-j.j c.loop-j.set no_term
             c.terms-terms.ensures.most c.loop-j.invariant.1 c.loop-j-test.true (ap (le_z (y to)) (sym is) ∙ in') short)
         | else-y-to w ↦
-            let out : le_z (y to) c.phase-sum-sum.result ≡ false = (let t = simp to_z-of_z at w.if-y-to.false in grind (arith, ints)) in
+            let out : le_z (y to) c.phase_sum-sum.result ≡ false = (let t = simp to_z-of_z at w.if-y-to.false in grind (arith, ints)) in
             rw w.set-is (tally-less laws to c.kind-kind.result c.k-k.result ts _ c.loop-j.j c.loop-j.set no_term
             c.terms-terms.ensures.most c.loop-j.invariant.1 c.loop-j-test.true (ap (le_z (y to)) (sym is) ∙ out))
       ],
       formed_more _ ts c.loop-j.j c.loop-j.sums _ no_term c.terms-terms.ensures.most c.loop-j.invariant.2 c.loop-j-test.true (to_z-of_z w64 _ sum ∙ is),
     )
 
-pub slice-bounds-sums-end : goal.slice-bounds-sums-end
-slice-bounds-sums-end g c = let few = c.terms-terms.ensures.most in let long = c.loop-j.invariant.2.long in omega arith
+pub slice_bounds-sums-end : goal.slice_bounds-sums-end
+slice_bounds-sums-end g c = let few = c.terms-terms.ensures.most in let long = c.loop-j.invariant.2.long in omega arith
 
-pub slice-bounds-latest-end : goal.slice-bounds-latest-end
-slice-bounds-latest-end g c = let few = c.terms-terms.ensures.most in let long = c.loop-j.invariant.2.long in simp length-take (omega arith)
+pub slice_bounds-latest-end : goal.slice_bounds-latest-end
+slice_bounds-latest-end g c = let few = c.terms-terms.ensures.most in let long = c.loop-j.invariant.2.long in simp length-take (omega arith)
 
-pub offset-bounds-y-to-in-bounds : goal.offset-bounds-y-to-in-bounds
-offset-bounds-y-to-in-bounds g c = let few = c.loop-j.invariant.0.few in let to = c.loop-j.invariant.0.within.0 in omega arith
+pub offset_bounds-y-to-in-bounds : goal.offset_bounds-y-to-in-bounds
+offset_bounds-y-to-in-bounds g c = let few = c.loop-j.invariant.0.few in let to = c.loop-j.invariant.0.within.0 in omega arith
 
 pub bounds-y-to-in-bounds : goal.bounds-y-to-in-bounds
 bounds-y-to-in-bounds g c = let few = c.loop-j.invariant.0.few in let to = c.loop-j.invariant.0.within.0 in omega arith
@@ -141,13 +141,13 @@ rounds-preserved g c =
     c.loop-j.invariant.0 c.loop-j.j c.loop-j.set c.loop-j.sums c.loop-j.invariant.1 c.loop-j.invariant.2 c.loop-j-test.false (omega arith)
     c.in-Some.time _ (omega (arith, ints)) c.in-Some.ensures)
 
-pub returns-in-default : goal.returns-in-default
-returns-in-default g c =
+pub returns-in_default : goal.returns-in_default
+returns-in_default g c =
     let laws = g.met.R.RuleSet.lawful c.args.rules.now in
     refused-to laws c.args.chosen.now c.args.bounds.now c.args.events c.args.source c.requires.sheet c.args.x.now c.bounds.y
     c.bounds.invariant.stands c.bounds.invariant.long c.turn-i.result c.to-to.result c.kind-kind.result c.k-k.result c.terms-terms.result.now
     c.loop-j.invariant.0 c.loop-j.j c.loop-j.set c.loop-j.sums c.loop-j.invariant.1 c.loop-j.invariant.2 c.loop-j-test.false (omega arith)
-    c.in-default.ensures
+    c.in_default.ensures
 
 pub returns-after-bounds : goal.returns-after-bounds
 returns-after-bounds g c = record { long = c.bounds.invariant.long; stands = c.bounds.invariant.stands; quiet = pass_end c.bounds.invariant c.bounds-test.false }

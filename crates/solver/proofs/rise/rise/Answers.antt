@@ -13,16 +13,16 @@ loop-y-init g c = (
 pub returns-then-not-rose : goal.returns-then-not-rose
 returns-then-not-rose g c =
     at-summit (g.met.R.RuleSet.lawful c.args.rules.now) c.args.chosen.now c.args.bounds.now c.args.events c.args.source c.requires.sheet
-    c.loop-y.x c.in-ok-y.y c.in-ok-y.ensures c.loop-y.invariant.1 (c.if-not-rose.ensures.none refl)
+    c.loop-y.x c.in_ok-y.y c.in_ok-y.ensures c.loop-y.invariant.1 (c.if-not-rose.ensures.none refl)
 
 pub loop-y-smaller : goal.loop-y-smaller
 loop-y-smaller g c =
     next-room (g.met.R.RuleSet.lawful c.args.rules.now) c.args.chosen.now c.args.bounds.now c.args.events c.args.source c.requires.sheet
-    c.loop-y.x c.in-ok-y.y c.in-ok-y.ensures (c.if-not-rose.ensures.some refl)
+    c.loop-y.x c.in_ok-y.y c.in_ok-y.ensures (c.if-not-rose.ensures.some refl)
 
 pub loop-y-preserved : goal.loop-y-preserved
 loop-y-preserved g c = (
-  c.in-ok-y.ensures.long,
+  c.in_ok-y.ensures.long,
   next-rising (g.met.R.RuleSet.lawful c.args.rules.now) c.args.chosen.now c.args.bounds.now c.args.events c.args.source c.requires.sheet
-      c.loop-y.x c.in-ok-y.y c.in-ok-y.ensures c.loop-y.invariant.1,
+      c.loop-y.x c.in_ok-y.y c.in_ok-y.ensures c.loop-y.invariant.1,
 )

@@ -24,11 +24,11 @@ loop-j-init g c =
       tally_start laws c.to-to.result c.kind-kind.result c.k-k.result ts (allows (times c.args.timetable.now) c.to-to.result),
     )
 
-pub term-sum-requires : goal.term-sum-requires
-term-sum-requires g c = term_at_lem (Summable c.args.timetable.now) c.terms-terms.result.now c.loop-j.j _ c.loop-j-test.true c.loop-j.invariant.1.1
+pub term_sum-requires : goal.term_sum-requires
+term_sum-requires g c = term_at_lem (Summable c.args.timetable.now) c.terms-terms.result.now c.loop-j.j _ c.loop-j-test.true c.loop-j.invariant.1.1
 
-pub bounds-preserved-then-not-takes-part : goal.bounds-preserved-then-not-takes-part
-bounds-preserved-then-not-takes-part g c =
+pub bounds-preserved-then-not-takes_part : goal.bounds-preserved-then-not-takes_part
+bounds-preserved-then-not-takes_part g c =
     let off : flag c.args.chosen.now c.bounds.i ≡ false = search rules in
     below_more _ c.bounds.i c.bounds.invariant (λ on. absurd (both_ways _ off on))
 
@@ -40,12 +40,12 @@ bounds-preserved g c =
     let to = c.to-to.result in
     let ts = c.terms-terms.result.now in
     let at : SFits w64 (get_or c.args.timetable.now to (pos 0)) = search rules in
-    let sum : SFits w64 c.term-sum.result = search rules in
-    let in' : le_z (t to) c.term-sum.result ≡ true = (let h = simp to_z-of_z at c.if-timetable-to.true in grind (arith, ints)) in
+    let sum : SFits w64 c.term_sum.result = search rules in
+    let in' : le_z (t to) c.term_sum.result ≡ true = (let h = simp to_z-of_z at c.if-timetable-to.true in grind (arith, ints)) in
     let enough : E c.kind-kind.result c.k-k.result (length ts) (bit_or c.loop-j.set ((1 * 2 ^ c.loop-j.j) % 256)) ≡ true = search rules in
     kept_so_far E t c.args.chosen.now c.args.bounds.now c.bounds.i _ c.bounds.invariant c.loop-j.invariant.0
     (tally-enough laws to c.kind-kind.result c.k-k.result ts (allows t to) c.loop-j.j c.loop-j.set _ c.terms-terms.ensures.most c.loop-j.invariant.2 c.loop-j-test.true
-    (ap (le_z (t to)) (sym c.term-sum.ensures) ∙ in') enough)
+    (ap (le_z (t to)) (sym c.term_sum.ensures) ∙ in') enough)
 
 pub loop-j-preserved : goal.loop-j-preserved
 loop-j-preserved g c =
@@ -55,18 +55,18 @@ loop-j-preserved g c =
     let t = times c.args.timetable.now in
     let to = c.to-to.result in
     let at : SFits w64 (get_or c.args.timetable.now to (pos 0)) = search rules in
-    let sum : SFits w64 c.term-sum.result = search rules in
-    let is = ap (le_z (t to)) (sym c.term-sum.ensures) in (
+    let sum : SFits w64 c.term_sum.result = search rules in
+    let is = ap (le_z (t to)) (sym c.term_sum.ensures) in (
       c.loop-j.invariant.0,
       c.loop-j.invariant.1,
       elim c.if-timetable-to.branch [
         | then-timetable-to+else-enough w ↦
-            let in' : le_z (t to) c.term-sum.result ≡ true = (let h = simp to_z-of_z at w.if-timetable-to.true in grind (arith, ints)) in
+            let in' : le_z (t to) c.term_sum.result ≡ true = (let h = simp to_z-of_z at w.if-timetable-to.true in grind (arith, ints)) in
             let short : E c.kind-kind.result c.k-k.result (length ts) (bit_or c.loop-j.set ((1 * 2 ^ c.loop-j.j) % 256)) ≡ false = search rules in
             rw w.set-is (tally-more laws to c.kind-kind.result c.k-k.result ts (allows t to) c.loop-j.j c.loop-j.set _
             c.terms-terms.ensures.most c.loop-j.invariant.2 c.loop-j-test.true (is ∙ in') short)
         | else-timetable-to w ↦
-            let out : le_z (t to) c.term-sum.result ≡ false = (let h = simp to_z-of_z at w.if-timetable-to.false in grind (arith, ints)) in
+            let out : le_z (t to) c.term_sum.result ≡ false = (let h = simp to_z-of_z at w.if-timetable-to.false in grind (arith, ints)) in
             rw w.set-is (tally-less laws to c.kind-kind.result c.k-k.result ts (allows t to) c.loop-j.j c.loop-j.set _
             c.terms-terms.ensures.most c.loop-j.invariant.2 c.loop-j-test.true (is ∙ out))
       ],

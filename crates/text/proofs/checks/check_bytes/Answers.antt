@@ -6,5 +6,5 @@ use Rattle.text.proofs.checks.check_bytes.Goals as goal
 pub returns : goal.returns
 returns c =
     let text = c.args.text.now in
-    let is : c.check-lines.result ≡ text_fault text = search rules in
+    let is : c.check_lines.result ≡ text_fault text = search rules in
     record { value = is; exactly = subst (FaultExactly text) (sym is) (clean_exactly text) }

@@ -7,8 +7,8 @@ use Rattle.text.proofs.Each.{each_more, each_stop, each_all}
 use Rattle.text.proofs.Numerals.{read_on-more}
 use Rattle.text.proofs.numeral.digits_value.Goals as goal
 
-pub returns-then-not-is-ascii-digit : goal.returns-then-not-is-ascii-digit
-returns-then-not-is-ascii-digit c = search (rules, each_stop is_ascii_digit)
+pub returns-then-not-is_ascii_digit : goal.returns-then-not-is_ascii_digit
+returns-then-not-is_ascii_digit c = search (rules, each_stop is_ascii_digit)
 
 pub loop-d-preserved : goal.loop-d-preserved
 loop-d-preserved c =

@@ -1,4 +1,4 @@
-use Rattle.std.proofs.Common.{◌≡◌, Some, Err, sym, ◌∙◌, w64, SFits, rules}
+use Rattle.std.proofs.Common.{◌≡◌, Some, Err, ◌∙◌, w64, SFits, rules}
 use Rattle.std.proofs.lemmas.Int.{to_z-of_z}
 use Rattle.text.specs.declared.numeral.NumeralFault.TheVariants.{Malformed}
 use Rattle.text.specs.Numerals.{numeral, ranged}

@@ -21,8 +21,8 @@ pub solve-requires : goal.solve-requires
 solve-requires g c =
     let d = c.args.drawn.now in
     record {
-      sheet = sheet_given d c.event-count-events.result c.event-count-events.ensures c.bounds-bounds.result.now c.bounds-bounds.ensures;
-      count = bounds_given d c.event-count-events.result c.event-count-events.ensures c.bounds-bounds.result.now c.bounds-bounds.ensures;
+      sheet = sheet_given d c.event_count-events.result c.event_count-events.ensures c.bounds-bounds.result.now c.bounds-bounds.ensures;
+      count = bounds_given d c.event_count-events.result c.event_count-events.ensures c.bounds-bounds.result.now c.bounds-bounds.ensures;
       inside = omega arith;
     }
 
@@ -30,8 +30,8 @@ pub knot-requires : goal.knot-requires
 knot-requires g c =
     let d = c.args.drawn.now in
     record {
-      sheet = sheet_given d c.event-count-events.result c.event-count-events.ensures c.bounds-bounds.result.now c.bounds-bounds.ensures;
-      count = bounds_given d c.event-count-events.result c.event-count-events.ensures c.bounds-bounds.result.now c.bounds-bounds.ensures;
+      sheet = sheet_given d c.event_count-events.result c.event_count-events.ensures c.bounds-bounds.result.now c.bounds-bounds.ensures;
+      count = bounds_given d c.event_count-events.result c.event_count-events.ensures c.bounds-bounds.result.now c.bounds-bounds.ensures;
     }
 
 -- the promise follows from what is right
@@ -46,9 +46,9 @@ pub returns-in-Places : goal.returns-in-Places
 returns-in-Places g c =
     let d = c.args.drawn.now in
     let bs = c.bounds-bounds.result.now in
-    let right = placed-right d c.event-count-events.result c.event-count-events.ensures bs c.bounds-bounds.ensures
+    let right = placed-right d c.event_count-events.result c.event_count-events.ensures bs c.bounds-bounds.ensures
     (g.R.RuleSet.suffices d.rules) c.args.source (omega arith) c.in-Places.places
-    (subst (λ r. AtPlaces (g.R.RuleSet.suffices r) c.event-count-events.result c.args.source (taking_part (replicate 256 true) bs) c.in-Places.places)
+    (subst (λ r. AtPlaces (g.R.RuleSet.suffices r) c.event_count-events.result c.args.source (taking_part (replicate 256 true) bs) c.in-Places.places)
     c.rules-rules.ensures c.in-Places.ensures) in
     record { right = right; promise = promised g d c.args.source (Placed c.in-Places.places) right }
 
@@ -56,7 +56,7 @@ pub returns-in-Contradictory : goal.returns-in-Contradictory
 returns-in-Contradictory g c =
     let d = c.args.drawn.now in
     let bs = c.bounds-bounds.result.now in
-    let right = knotted-right d c.event-count-events.result c.event-count-events.ensures bs c.bounds-bounds.ensures
+    let right = knotted-right d c.event_count-events.result c.event_count-events.ensures bs c.bounds-bounds.ensures
     (g.R.RuleSet.suffices d.rules) c.args.source (omega arith) c.knot.result
     (subst (λ r. Contradictory (g.R.RuleSet.suffices r) (taking_part (replicate 256 true) bs)) c.rules-rules.ensures c.in-Contradictory.ensures)
     (subst (λ l. Knot (g.R.RuleSet.suffices d.rules) l (flag c.knot.result)) c.bounds-bounds.ensures

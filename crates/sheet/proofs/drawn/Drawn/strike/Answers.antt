@@ -9,15 +9,15 @@ returns-then-number-count g c =
     let count = bound_count c.args.self.now.names c.args.self.now.bounds in
     record { gives = no_such_bound _ _ (omega arith); keeps = refl }
 
-pub invariant-of-self : goal.invariant-of-self
-invariant-of-self g c =
+pub invariant_of-self : goal.invariant_of-self
+invariant_of-self g c =
     let s = c.args.self.now in
     let i = c.args.number in
     let p = plain_of s.names s.bounds in
     let is = struck_is s.names s.bounds c.remove.new.self i c.remove.ensures.by_index.2 in
     let aimed = subst Aimed (sym is) (struck_aimed p i s.aimed) in
     let termed = subst Termed (sym is) (struck_termed p i s.termed) in
-    (s.few, (s.room, (omega arith, (omega arith, (s.apart, (aimed, (termed, tt)))))))
+    record { few = s.few; room = s.room; most = omega arith; space = omega arith; apart = s.apart; aimed = aimed; termed = termed }
 
 pub returns : goal.returns
 returns g c =

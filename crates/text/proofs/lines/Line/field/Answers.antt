@@ -1,4 +1,4 @@
-use Rattle.std.proofs.Common.{◌≡◌, ℕ, ◌+◌, ◌<◌, ◌≤◌, List, length, take, drop, sym, refl, ap, ◌∙◌, arith, length-drop, rules}
+use Rattle.std.proofs.Common.{◌≡◌, ℕ, ◌+◌, ◌<◌, ◌≤◌, length, take, drop, sym, ap, ◌∙◌, arith, length-drop, rules}
 use Rattle.text.specs.Split.{before, fields_of, parted_by}
 use Rattle.text.proofs.Splits.{parted_next, parted_here, parted_le, parted_over, parted_within, rest_after}
 use Rattle.text.proofs.lines.Line.field.Goals as goal
@@ -8,8 +8,8 @@ returns-then-n-rest c =
     let le : length c.loop.rest.now ≤ before 9 c.loop.rest.now = omega arith in
     omega (arith, parted_over 9 (fields_of c.args.self.bytes.now) c.loop.rest.now c.loop.counter c.loop.invariant.0 le)
 
-pub overflow-add-rest : goal.overflow-add-rest
-overflow-add-rest c = search rules
+pub overflow_add-rest : goal.overflow_add-rest
+overflow_add-rest c = search rules
 
 pub loop-preserved : goal.loop-preserved
 loop-preserved c =
@@ -20,8 +20,8 @@ loop-preserved c =
       omega (arith, ap length rest, length-drop (before 9 xs + 1) xs),
     )
 
-pub overflow-add-result : goal.overflow-add-result
-overflow-add-result c = search (rules, parted_le 9 c.args.self.bytes.now, parted_within)
+pub overflow_add-result : goal.overflow_add-result
+overflow_add-result c = search (rules, parted_le 9 c.args.self.bytes.now, parted_within)
 
 pub returns : goal.returns
 returns c =

@@ -1,11 +1,11 @@
-use Rattle.std.proofs.Common.{◌≡◌, ℕ, ◌+◌, ◌-◌, ◌<◌, List, ◌∷◌, length, take, drop, sym, ap, ◌∙◌, arith, rules}
-use Rattle.text.specs.Split.{lines_of, before}
+use Rattle.std.proofs.Common.{◌≡◌, ℕ, ◌+◌, ◌-◌, ◌<◌, List, ◌∷◌, length, take, drop, sym, ap, ◌∙◌, rules}
+use Rattle.text.specs.Split.{lines_of}
 use Rattle.text.proofs.Splits.{ended_some, ended-none, rest_after, rest_none}
 use Rattle.text.proofs.reader.Reader.next_line.Goals as goal
 use Rattle.text.proofs.reader.Reader.next_line.Goals.{then-n-self, else-n-self}
 
-pub returns-then-is-empty : goal.returns-then-is-empty
-returns-then-is-empty c = search (rules, ended-none)
+pub returns-then-is_empty : goal.returns-then-is_empty
+returns-then-is_empty c = search (rules, ended-none)
 
 pub returns : goal.returns
 returns c =

@@ -12,27 +12,27 @@ returns-then-value-ge0 c =
     let z = c.args.value in
     let fits = c.ranges.value in
     let plus : le_z (pos 0) z ≡ true = simp to_z-of_z at c.if-value-ge0.true in
-    let size : c.unsigned-abs.result ≡ nat_abs z = simp to_z-of_z at c.unsigned-abs.ensures.value in
+    let size : c.unsigned_abs.result ≡ nat_abs z = simp to_z-of_z at c.unsigned_abs.ensures.value in
     let is : digits_of c.natural.result ≡ signed_decimal z = c.natural.ensures.written ∙ ap decimal size ∙ sym (signed_plain z plus) in
     record { written = is; read = ap numeral is ∙ numeral_signed z fits.sfits }
 
-pub put-natural-requires : goal.put-natural-requires
-put-natural-requires c =
+pub put_natural-requires : goal.put_natural-requires
+put_natural-requires c =
     let z = c.args.value in
     let fits = c.ranges.value in
     let minus : le_z (pos 0) z ≡ false = simp to_z-of_z at c.if-value-ge0.false in
-    let size : c.unsigned-abs-2.result ≡ nat_abs z = simp to_z-of_z at c.unsigned-abs-2.ensures.value in
-    omega (arith, length_signed z fits.sfits, ap length (signed_minus z minus ∙ ap (λ (n : ℕ). 45 ∷ decimal n) (sym size)), c.put-byte.ensures.len)
+    let size : c.unsigned_abs-2.result ≡ nat_abs z = simp to_z-of_z at c.unsigned_abs-2.ensures.value in
+    omega (arith, length_signed z fits.sfits, ap length (signed_minus z minus ∙ ap (λ (n : ℕ). 45 ∷ decimal n) (sym size)), c.put_byte.ensures.len)
 
 pub returns : goal.returns
 returns c =
     let z = c.args.value in
     let fits = c.ranges.value in
     let minus : le_z (pos 0) z ≡ false = simp to_z-of_z at c.if-value-ge0.false in
-    let size : c.unsigned-abs-2.result ≡ nat_abs z = simp to_z-of_z at c.unsigned-abs-2.ensures.value in
-    let sign : digits_of c.put-byte.new.self ≡ 45 ∷ [] = search rules in
-    let is : digits_of c.put-natural.new.self ≡ signed_decimal z =
-    c.put-natural.ensures.bytes
-    ∙ ap (λ (s : List ℕ). s ++ decimal c.unsigned-abs-2.result) sign
+    let size : c.unsigned_abs-2.result ≡ nat_abs z = simp to_z-of_z at c.unsigned_abs-2.ensures.value in
+    let sign : digits_of c.put_byte.new.self ≡ 45 ∷ [] = search rules in
+    let is : digits_of c.put_natural.new.self ≡ signed_decimal z =
+    c.put_natural.ensures.bytes
+    ∙ ap (λ (s : List ℕ). s ++ decimal c.unsigned_abs-2.result) sign
     ∙ ap (λ (n : ℕ). 45 ∷ decimal n) size ∙ sym (signed_minus z minus) in
     record { written = is; read = ap numeral is ∙ numeral_signed z fits.sfits }
