@@ -1,5 +1,5 @@
 -- Where what settling found is right, the answers are the defined ones; and the definitions leave no choice.
-use Rattle.std.proofs.Common.{◌≡◌, ℕ, ◌<◌, ◌≤◌, Bool, true, false, cond, ltb, ◌⊎◌, List, length, get_or, ℤ, pos, ◌≤ℤ◌, Some, None, Ok, Err, Option, Result, sym, refl, ap, ◌∙◌, subst, inl, inr, arith, lit≤, w64, SFits, to_z, of_z}
+use Rattle.std.proofs.Common.{◌≡◌, ℕ, ◌<◌, Bool, true, false, cond, ltb, length, get_or, ℤ, pos, Some, None, Ok, Err, Option, Result, sym, refl, ap, ◌∙◌, subst, inl, inr, arith, lit≤, w64, SFits, to_z, of_z}
 use lib.Signed.{le_z, lt_z}
 use Rattle.std.proofs.lemmas.Int.{ints, to_z-of_z}
 use Rattle.std.proofs.lemmas.Bool.{cond-true, cond-false, cond_both, lt-ltb, le-ltb, ltb-true, ltb-false}
@@ -7,7 +7,7 @@ use Rattle.rules.specs.Laws.{Admits, Enough, Laws}
 use Rattle.timing.specs.Limits.{delay_limit}
 use Rattle.timing.specs.Model.{IsSheet}
 use Rattle.timing.specs.Timetables.{Timetable, times, Contradictory}
-use Rattle.timing.specs.Places.{span, Open, separation}
+use Rattle.timing.specs.Places.{span, separation}
 use Rattle.timing.proofs.Keeping.{choice}
 use Rattle.timing.proofs.Range.{place_tells}
 use Rattle.timing.proofs.Statements.{separation_is, far_places_are_open, places_are_unique, knot_is_unique}
@@ -17,7 +17,7 @@ use Rattle.sheet.specs.declared.fault.Refusal.TheVariants.{NoSuchSource, NoSuchE
 use Rattle.settle.specs.declared.reading.Reading.{Reading}
 use Rattle.settle.specs.declared.settled.Found.{Found}
 use Rattle.settle.specs.declared.settled.Found.TheVariants.{NoSource, Placed, Knotted}
-use Rattle.settle.specs.Held.{events, reading_of, read_held, knot_held, within, verdict_on}
+use Rattle.settle.specs.Held.{events, read_held, knot_held, within, verdict_on}
 use Rattle.settle.specs.Meaning.{PlacesFrom, Consistent, Right, Unread, Reads, Knots, Met, Broken, Judges}
 
 pub reads_from : (E : Enough) (s : PlainSheet) (source : ℕ) (found : Found) → Right E s source found → (e : ℕ) → Reads E s source e (read_held s found e)

@@ -1,5 +1,5 @@
 -- A run, call by call.
-use Rattle.std.proofs.Common.{◌≡◌, ℕ, zero, suc, ◌+◌, ◌<◌, ◌≤◌, ◌⊎◌, List, [], ◌∷◌, ◌++◌, length, get_or, take, drop, sym, refl, ap, ◌∙◌, subst, inl, inr, arith}
+use Rattle.std.proofs.Common.{◌≡◌, ℕ, zero, suc, ◌+◌, ◌<◌, ◌≤◌, List, [], ◌∷◌, ◌++◌, length, get_or, take, drop, sym, refl, ap, ◌∙◌, subst, inl, inr, arith}
 use Rattle.std.proofs.lemmas.List.{take_more, take_all}
 use Rattle.std.proofs.lemmas.Bool.{cases_lt}
 use Rattle.rules.specs.declared.RuleSet.{Ghosts}
@@ -18,26 +18,9 @@ use Rattle.settle.specs.declared.replay.Answer.TheVariants.{ReadAs, InKnot}
 use Rattle.settle.specs.declared.replay.Sheet.{Sheet}
 use Rattle.settle.specs.declared.replay.Sheet.TheVariants.{Drawn as IsDrawn, Settled as IsSettled}
 use Rattle.settle.specs.Held.{events, read_held, knot_held}
-use Rattle.settle.specs.Meaning.{Right, Reads, Knots}
+use Rattle.settle.specs.Meaning.{Right}
 use Rattle.settle.specs.Model.{standing}
-use Rattle.settle.specs.Runs.{
-  Stage,
-  drawn,
-  settled,
-  after_call,
-  after_calls,
-  stage_after,
-  Told,
-  EachTold,
-  AnsweredBy,
-  WheneverSettled,
-  stage_of,
-  rules_in,
-  RightIn,
-  KeepsPromise,
-  Stepped,
-  Replays,
-}
+use Rattle.settle.specs.Runs.{Stage, drawn, settled, after_call, after_calls, Told, EachTold, AnsweredBy, WheneverSettled, stage_of, rules_in, RightIn, KeepsPromise, Stepped, Replays}
 use Rattle.settle.proofs.Meant.{reads_from, knots_from, reads_unique, knots_unique}
 use Rattle.settle.proofs.Promises.{promise_from}
 

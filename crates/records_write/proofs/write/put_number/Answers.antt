@@ -1,6 +1,5 @@
 use Rattle.std.proofs.Common.{ℕ, ◌<◌, List, ◌∷◌, ◌++◌, length, ap, ◌∙◌, arith}
 use Rattle.records_write.specs.Shown.{shown}
-use Rattle.records_write.specs.Writes.{written}
 use Rattle.records_write.proofs.Puts.{byte_long}
 use Rattle.records_write.proofs.write.put_number.Goals as goal
 

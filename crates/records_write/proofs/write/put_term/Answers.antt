@@ -4,7 +4,6 @@ use Rattle.std.proofs.lemmas.Int.{to_z-of_z}
 use Rattle.text.specs.Spelled.{digits_of}
 use Rattle.sheet.specs.Model.{sheet_of}
 use Rattle.records_write.specs.Shown.{shown}
-use Rattle.records_write.specs.Writes.{written}
 use Rattle.records_write.proofs.Puts.{put_2}
 use Rattle.records_write.proofs.write.put_term.Goals as goal
 

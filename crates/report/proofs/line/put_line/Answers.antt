@@ -3,7 +3,7 @@ use Rattle.std.proofs.lemmas.List.{take_all}
 use Rattle.text.specs.Split.{tabbed}
 use Rattle.report.proofs.Fields.{put_first, put_next}
 use Rattle.report.proofs.line.put_line.Goals as goal
-use Rattle.report.proofs.line.put_line.Goals.{then-i-gt0+in-ok-push, else-i-gt0}
+use Rattle.report.proofs.line.put_line.Goals.{then-i-gt0+in_ok-push, else-i-gt0}
 
 -- the element that a read past the end would give
 abbrev none_there : Bor (List ℕ)

@@ -1,6 +1,5 @@
-use Rattle.std.proofs.Common.{◌≡◌, Ok}
 use Rattle.sheet.proofs.Standing.{sheet_is}
-use Rattle.settle.specs.Model.{standing, read_of, verdict_of}
+use Rattle.settle.specs.Model.{standing, read_of}
 use Rattle.settle.proofs.Meant.{verdict_is, judges_since}
 use Rattle.settle.proofs.settled.Settled.is_met.Goals as goal
 

@@ -1,4 +1,4 @@
-use Rattle.std.proofs.Common.{◌≡◌, Ok, Err, sym, ap, arith}
+use Rattle.std.proofs.Common.{◌≡◌, Err, sym, ap, arith}
 use Rattle.sheet.proofs.Standing.{few_bounds}
 use Rattle.sheet.specs.declared.fault.Refusal.TheVariants.{NotContradictory}
 use Rattle.settle.specs.Held.{knot_held}
