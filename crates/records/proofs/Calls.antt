@@ -1,7 +1,7 @@
 -- What the sheet's calls answer to a line, against what the line is to add.
 use Rattle.std.proofs.Common.{◌≡◌, ℕ, ◌+◌, ◌<◌, Bool, true, false, cond, not, ltb, List, [], ◌∷◌, ◌++◌, map, length, get_or, take, drop, set, pos, neg_ℤ, is_some, None, Ok, Err, Result, sym, refl, ap, ◌∙◌, subst, ap₂, arith}
 use lib.Signed.{le_z}
-use Rattle.std.specs.List.{AllByRecursion as All}
+use Rattle.std.specs.List.{AllByRecursion}
 use Rattle.std.proofs.lemmas.List.{append_assoc, append-nil, take_more, take-append-drop, drop_more, take_more_set, map_push, map_more}
 use Rattle.std.proofs.lemmas.Int.{ints}
 use Rattle.std.proofs.lemmas.Bool.{lt-ltb}
@@ -22,7 +22,7 @@ use Rattle.records.specs.Loads.{admitted, event_added, bound_added, bounds_added
 use Rattle.records.specs.Refusals.{at_line}
 
 -- of terms within the sheet there is no fault
-no_fault : (n : ℕ) (ts : List TermModel) → All (TermWithin n delay_limit) ts → terms_fault n ts ≡ None
+no_fault : (n : ℕ) (ts : List TermModel) → AllByRecursion (TermWithin n delay_limit) ts → terms_fault n ts ≡ None
 no_fault n [] w = refl
 no_fault n (t ∷ ts) w =
     let low : le_z (neg_ℤ (pos delay_limit)) t.delay ≡ true = let h = w.0.1 in grind (arith, ints) in
@@ -85,7 +85,7 @@ mapped_more {X} {Y} {Z} f g xs ys i x y in' lt read e h =
     ∙ ap₂ (λ (l : List Z) (z : Z). l ++ (z ∷ [])) h (e ∙ ap g read) ∙ sym (map_more g ys i y lt)
 
 -- what holds of two lists put together holds of each
-pub all-parts : {X : Type 0} (P : X → Type 0) (xs ys : List X) → All P (xs ++ ys) → All P xs × All P ys
+pub all-parts : {X : Type 0} (P : X → Type 0) (xs ys : List X) → AllByRecursion P (xs ++ ys) → AllByRecursion P xs × AllByRecursion P ys
 all-parts P [] ys h = (tt, h)
 all-parts P (x ∷ xs) ys h = let r = all-parts P xs ys h.1 in ((h.0, r.0), r.1)
 
@@ -147,9 +147,9 @@ module _ (to : ℕ) (is : List Input) (i : ℕ) (d : Input) (lt : i < length is)
       ap (low_bounds to) (sym (take-append-drop i is) ∙ ap (λ (l : List Input). take i is ++ l) (drop_more is i d lt))
       ∙ lows_append to (take i is) (get_or is i d ∷ drop (i + 1) is)
 
-  pub low_of : (P : BoundModel → Type 0) → All P (low_bounds to is) → All P this
+  pub low_of : (P : BoundModel → Type 0) → AllByRecursion P (low_bounds to is) → AllByRecursion P this
   low_of P h =
-      (all-parts P this (low_bounds to (drop (i + 1) is)) (all-parts P (low_bounds to (take i is)) (this ++ low_bounds to (drop (i + 1) is)) (subst (All P) lows_split h)).1).0
+      (all-parts P this (low_bounds to (drop (i + 1) is)) (all-parts P (low_bounds to (take i is)) (this ++ low_bounds to (drop (i + 1) is)) (subst (AllByRecursion P) lows_split h)).1).0
 
   module _ (a b : Admits) (same : b ≡ a) (n : ℕ) (s t : PlainSheet) (so_far : bounds_added a n s (low_bounds to (take i is)) ≡ Ok t) where
     pub lows-more : (u : PlainSheet) → Ok u ≡ bounds_added b n t this → bounds_added a n s (low_bounds to (take (i + 1) is)) ≡ Ok u

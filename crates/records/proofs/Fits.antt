@@ -2,7 +2,7 @@
 use Rattle.std.proofs.Common.{◌≡◌, ℕ, zero, suc, ◌+◌, ◌<◌, Bool, true, false, cond, ◌&&◌, eqb, List, [], ◌∷◌, ◌++◌, map, length, get_or, ℤ, pos, neg_ℤ, ◌≤ℤ◌, is_some, Some, None, Ok, Err, codes, Option, Result, refl, subst, arith}
 use lib.Signed.{le_z}
 use Rattle.std.specs.Option.{ok_or, option_map}
-use Rattle.std.specs.List.{AllByRecursion as All}
+use Rattle.std.specs.List.{AllByRecursion}
 use Rattle.std.specs.Str.{bytes_eq}
 use Rattle.std.proofs.ByRecursion.{All-append, All-push, All-map}
 use Rattle.std.proofs.lemmas.Int.{ints}
@@ -91,22 +91,22 @@ module _ (names : List (List ℕ)) where
   abbrev Within : BoundModel → Type 0
   Within = BoundWithin (length names) delay_limit
 
-  low-within : (from to : ℕ) (low : Option ℤ) → Stands names from → Stands names to → IsSide low → All Within (low_bound from to low)
+  low-within : (from to : ℕ) (low : Option ℤ) → Stands names from → Stands names to → IsSide low → AllByRecursion Within (low_bound from to low)
   low-within from to None f t s = tt
   low-within from to (Some z) f t s = ((f, ((t, omega (arith, ints), omega (arith, ints)), tt)), tt)
 
-  high_within : (from to : ℕ) (high : Option ℤ) → Stands names from → Stands names to → IsSide high → All Within (high_bound from to high)
+  high_within : (from to : ℕ) (high : Option ℤ) → Stands names from → Stands names to → IsSide high → AllByRecursion Within (high_bound from to high)
   high_within from to None f t s = tt
   high_within from to (Some z) f t s = ((t, ((f, s.0, s.1), tt)), tt)
 
   abbrev InputFits : Input → Type 0
   InputFits i = Stands names i.from × IsSide i.low × IsDelay i.high
 
-  inputs-within : (is : List Input) → All InputFits is → All (TermWithin (length names) delay_limit) (map high_term is)
+  inputs-within : (is : List Input) → AllByRecursion InputFits is → AllByRecursion (TermWithin (length names) delay_limit) (map high_term is)
   inputs-within [] h = tt
   inputs-within (i ∷ is) h = ((h.0.0, h.0.2.0, h.0.2.1), inputs-within is h.1)
 
-  lows_within : (to : ℕ) (is : List Input) → Stands names to → All InputFits is → All Within (low_bounds to is)
+  lows_within : (to : ℕ) (is : List Input) → Stands names to → AllByRecursion InputFits is → AllByRecursion Within (low_bounds to is)
   lows_within to [] t h = tt
   lows_within to (i ∷ is) t h =
       All-append Within (low_bound i.from to i.low) (low_bounds to is) (low-within i.from to i.low h.0.0 t h.0.1) (lows_within to is t h.1)
@@ -115,12 +115,12 @@ module _ (names : List (List ℕ)) where
   TermFits t = TermWithin (length names) delay_limit (term_of t)
 
   module _ {X : Type 0} (P : X → Type 0) (at : ℕ → Result X LoadFault) (fits : (j : ℕ) → Then P (at j)) (width : ℕ) where
-    groups-fit : (count j : ℕ) (said : List X) → All P said → Then (All P) (groups_from at width count j said)
+    groups-fit : (count j : ℕ) (said : List X) → AllByRecursion P said → Then (AllByRecursion P) (groups_from at width count j said)
     groups-fit zero j said a = a
     groups-fit (suc c) j said a = go (at j) (fits j) (λ x h. groups-fit c (j + width) (said ++ (x ∷ [])) (All-push P said x a h))
       where
-        go : (r : Result X LoadFault) → Then P r → ((x : X) → P x → Then (All P) (groups_from at width c (j + width) (said ++ (x ∷ []))))
-            → Then (All P) (and_then r (λ x. groups_from at width c (j + width) (said ++ (x ∷ []))))
+        go : (r : Result X LoadFault) → Then P r → ((x : X) → P x → Then (AllByRecursion P) (groups_from at width c (j + width) (said ++ (x ∷ []))))
+            → Then (AllByRecursion P) (and_then r (λ x. groups_from at width c (j + width) (said ++ (x ∷ []))))
         go (Ok x) h rest = rest x h
         go (Err e) h rest = tt
 
@@ -191,12 +191,12 @@ module _ (names : List (List ℕ)) where
     delay-fits : Then (Fitting names) (delay_says names n fs)
     delay-fits = go (groups 2 3 (length fs)) (event_at names (placed n 1) (get_or fs 1 [])) (event-here 1)
       where
-        last : (to : ℕ) (inputs : List Input) (b : Bool) → Stands names to → All InputFits inputs
+        last : (to : ℕ) (inputs : List Input) (b : Bool) → Stands names to → AllByRecursion InputFits inputs
             → Then (Fitting names) (cond b (Ok (some_bounds (delay_bounds to inputs))) (Err (Record (LowAboveHigh n))))
         last to inputs true t h = ((t, inputs-within inputs h), lows_within to inputs t h)
         last to inputs false t h = tt
 
-        rest : (to : ℕ) → Stands names to → (r : Result (List Input) LoadFault) → Then (All InputFits) r
+        rest : (to : ℕ) → Stands names to → (r : Result (List Input) LoadFault) → Then (AllByRecursion InputFits) r
             → Then (Fitting names) (and_then r (λ inputs. cond (each input_agrees inputs) (Ok (some_bounds (delay_bounds to inputs))) (Err (Record (LowAboveHigh n)))))
         rest to t (Ok inputs) h = last to inputs (each input_agrees inputs) t h
         rest to t (Err e) h = tt
@@ -213,7 +213,7 @@ module _ (names : List (List ℕ)) where
         go (groups 4 2 (length fs)) (carried Record (byte_at (placed n 1) (get_or fs 1 []))) (carried Record (byte_at (placed n 2) (get_or fs 2 [])))
         (event_at names (placed n 3) (get_or fs 3 [])) (event-here 3)
       where
-        rest : (kind k to : ℕ) → Stands names to → (r : Result (List Term) LoadFault) → Then (All TermFits) r
+        rest : (kind k to : ℕ) → Stands names to → (r : Result (List Term) LoadFault) → Then (AllByRecursion TermFits) r
             → Then (Fitting names) (and_then r (λ terms. Ok (some_bounds (limit_bound kind k to terms ∷ []))))
         rest kind k to t (Ok terms) h = ((t, All-map (TermWithin (length names) delay_limit) term_of terms h), tt)
         rest kind k to t (Err e) h = tt

@@ -1,6 +1,6 @@
 -- The timetables that keep the bounds of a record are those that the record means, under every lawful rule set.
 use Rattle.std.proofs.Common.{◌≡◌, ℕ, zero, suc, ◌<◌, Bool, true, false, cond, List, [], ◌∷◌, map, length, get_or, ℤ, ◌+ℤ◌, neg_ℤ, ◌≤ℤ◌, Some, None, Option, sym, ◌∙◌, subst, ap₂, ⊎_elim, arith}
-use Rattle.std.specs.List.{AllByRecursion as All}
+use Rattle.std.specs.List.{AllByRecursion}
 use Rattle.std.proofs.ByRecursion.{All-append}
 use Rattle.std.proofs.lemmas.List.{length-map}
 use Rattle.std.proofs.lemmas.Int.{ints}
@@ -77,7 +77,7 @@ module _ {A : Admits} {E : Enough} (laws : Laws A E) where
   )
 
   lows_mean : (t : Timetable) (to : ℕ) (inputs : List Input)
-      → Same (KeepsAll E (low_bounds to inputs) t) (All (λ i. NotBefore t i.from to i.low) inputs)
+      → Same (KeepsAll E (low_bounds to inputs) t) (AllByRecursion (λ i. NotBefore t i.from to i.low) inputs)
   lows_mean t to [] = (λ _. tt, λ _. tt)
   lows_mean t to (i ∷ is) =
       let rest = lows_mean t to is in

@@ -1,6 +1,6 @@
 -- What a linear, a delay and a limit record mean: which timetables keep the bounds that they add.
 use Rattle.std.specs.Prelude.{◌≡◌, ℕ, ◌<◌, ◌≤◌, true, List, [], ◌∷◌, length, ℤ, ◌+ℤ◌, ◌≤ℤ◌, Some, None, Option, int_le, slice_index_or}
-use Rattle.std.specs.List.{AllByRecursion as All}
+use Rattle.std.specs.List.{AllByRecursion}
 use Rattle.rules.specs.Laws.{Enough}
 use Rattle.rules.specs.Masks.{mask_by}
 use Rattle.timing.specs.Timetables.{Timetable, KeepsAll}
@@ -36,7 +36,7 @@ NotAfterLatest t to inputs = (i : ℕ) × (i < length inputs) × ((d : Input) �
 abbrev pub DelayMeans : Enough → Type 0
 DelayMeans enough =
     (to : ℕ) (inputs : List Input) (t : Timetable) → 1 ≤ length inputs → length inputs ≤ 8
-    → Same (KeepsAll enough (delay_bounds to inputs) t) (NotAfterLatest t to inputs × All (λ i. NotBefore t i.from to i.low) inputs)
+    → Same (KeepsAll enough (delay_bounds to inputs) t) (NotAfterLatest t to inputs × AllByRecursion (λ i. NotBefore t i.from to i.low) inputs)
 
 -- limit: those of TO ≤ FROM + HIGH that hold are enough by the rule
 abbrev pub LimitMeans : Enough → Type 0

@@ -1,6 +1,6 @@
 -- What an entry of the program says, and what a sheet must have for it.
 use Rattle.std.specs.Prelude.{◌≡◌, ℕ, ◌<◌, true, false, List, [], ◌∷◌, length, take, is_some, Ok, Err, Result}
-use Rattle.std.specs.List.{AllByRecursion as All}
+use Rattle.std.specs.List.{AllByRecursion}
 use Rattle.text.specs.Names.{is_name}
 use Rattle.text.specs.Spelled.{spelled}
 use Rattle.timing.specs.Limits.{delay_limit}
@@ -26,5 +26,5 @@ Reads (Err fault) said = said ≡ Err fault
 -- a new name, or bounds or a need among events with these names
 abbrev pub Fitting : List (List ℕ) → Said → Type 0
 Fitting names (an_event name) = (is_name name ≡ true) × (is_some (number_in names name) ≡ false)
-Fitting names (some_bounds bounds) = All (BoundWithin (length names) delay_limit) bounds
+Fitting names (some_bounds bounds) = AllByRecursion (BoundWithin (length names) delay_limit) bounds
 Fitting names (a_need need) = (need.from < length names) × (need.to < length names)

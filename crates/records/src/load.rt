@@ -1,6 +1,6 @@
 //! Load: a text into a new sheet and blank slots.
 ghost use Rattle.std.specs.Prelude.{◌≡◌, ◌≤◌, [], ◌∷◌, map, length, take, replicate, Ok, Err, MatchResult};
-ghost use Rattle.std.specs.List.{AllByRecursion as All};
+ghost use Rattle.std.specs.List.{AllByRecursion};
 ghost use Rattle.text.specs.Checks.{whole_text};
 ghost use Rattle.text.specs.Split.{lines_of};
 ghost use Rattle.text.specs.Spelled.{spelled};
@@ -101,7 +101,7 @@ fn add_low<R: RuleSet>(
     to: usize,
     low: Option<i32>,
 ) -> Result<(), LoadFault>
-    requires { All (BoundWithin (length (sheet_of sheet.old).names) delay_limit) (low_bound from to low) }
+    requires { AllByRecursion (BoundWithin (length (sheet_of sheet.old).names) delay_limit) (low_bound from to low) }
     ensures adds { map_ok (λ _. sheet_of sheet.new) result ≡ bounds_added (R.RuleSet.admitted sheet.old.rules) line (sheet_of sheet.old) (low_bound from to low) }
     ensures keeps { sheet.new.rules ≡ sheet.old.rules }
 {
@@ -129,7 +129,7 @@ fn add_high<R: RuleSet>(
     to: usize,
     high: Option<i32>,
 ) -> Result<(), LoadFault>
-    requires { All (BoundWithin (length (sheet_of sheet.old).names) delay_limit) (high_bound from to high) }
+    requires { AllByRecursion (BoundWithin (length (sheet_of sheet.old).names) delay_limit) (high_bound from to high) }
     ensures adds { map_ok (λ _. sheet_of sheet.new) result ≡ bounds_added (R.RuleSet.admitted sheet.old.rules) line (sheet_of sheet.old) (high_bound from to high) }
     ensures keeps { sheet.new.rules ≡ sheet.old.rules }
 {
@@ -165,7 +165,7 @@ fn add_lows<R: RuleSet>(
     to: usize,
     inputs: &[Input],
 ) -> Result<(), LoadFault>
-    requires { All (BoundWithin (length (sheet_of sheet.old).names) delay_limit) (low_bounds to inputs.now) }
+    requires { AllByRecursion (BoundWithin (length (sheet_of sheet.old).names) delay_limit) (low_bounds to inputs.now) }
     ensures adds { map_ok (λ _. sheet_of sheet.new) result ≡ bounds_added (R.RuleSet.admitted sheet.old.rules) line (sheet_of sheet.old) (low_bounds to inputs.now) }
     ensures keeps { sheet.new.rules ≡ sheet.old.rules }
 {

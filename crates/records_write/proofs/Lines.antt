@@ -3,7 +3,7 @@ use Rattle.std.proofs.Common.{◌≡◌, ℕ, suc, ◌+◌, ◌-◌, ◌*◌, �
 use lib.Signed.{mag}
 use Rattle.std.specs.Char.{is_ascii_digit}
 use Rattle.std.specs.Fmt.{signed_decimal}
-use Rattle.std.specs.List.{flat_map, AllByRecursion as All}
+use Rattle.std.specs.List.{flat_map, AllByRecursion}
 use Rattle.std.specs.Str.{all_ascii_digits}
 use Rattle.std.proofs.lemmas.Fmt.{digits_decimal}
 use Rattle.std.proofs.ByRecursion.{All-append, All-weaker}
@@ -17,7 +17,7 @@ use Rattle.text.specs.Split.{onto, parted_by, lines_of, fields_of, Lacks, tabbed
 
 -- bytes that may stand in a field
 abbrev pub Printable : List ℕ → Type 0
-Printable f = All (λ b. (32 ≤ b) × (b ≤ 126)) f
+Printable f = AllByRecursion (λ b. (32 ≤ b) × (b ≤ 126)) f
 
 printable_lacks : (c : ℕ) → c < 32 → (f : List ℕ) → Printable f → Lacks c f
 printable_lacks c small f = All-weaker _ (λ b. eqb b c ≡ false) (λ b p. ne_eqb b c (λ e. omega (arith, p.0))) f
@@ -74,18 +74,18 @@ field_last : (c : ℕ) (f : List ℕ) → Lacks c f → parted_by c f ≡ f ∷ 
 field_last c [] h = refl
 field_last c (x ∷ f) h = cond-false (eqb x c) _ _ h.0 ∙ ap (onto x) (field_last c f h.1)
 
-pub fields_tabbed : (f : List ℕ) (fs : List (List ℕ)) → All Printable (f ∷ fs) → fields_of (tabbed (f ∷ fs)) ≡ f ∷ fs
+pub fields_tabbed : (f : List ℕ) (fs : List (List ℕ)) → AllByRecursion Printable (f ∷ fs) → fields_of (tabbed (f ∷ fs)) ≡ f ∷ fs
 fields_tabbed f [] h = field_last 9 f (printable_lacks 9 (omega arith) f h.0)
 fields_tabbed f (g ∷ gs) h =
     field_first 9 f (tabbed (g ∷ gs)) (printable_lacks 9 (omega arith) f h.0)
     ∙ ap (λ (ps : List (List ℕ)). f ∷ ps) (fields_tabbed g gs h.1)
 
-pub line_allowed : (fs : List (List ℕ)) → All Printable fs → each allowed (tabbed fs) ≡ true
+pub line_allowed : (fs : List (List ℕ)) → AllByRecursion Printable fs → each allowed (tabbed fs) ≡ true
 line_allowed [] h = refl
 line_allowed (f ∷ []) h = printable_allowed f h.0
 line_allowed (f ∷ g ∷ gs) h = each_append f (9 ∷ tabbed (g ∷ gs)) (printable_allowed f h.0) (line_allowed (g ∷ gs) h.1)
 
-pub line_lacks : (fs : List (List ℕ)) → All Printable fs → Lacks 10 (tabbed fs)
+pub line_lacks : (fs : List (List ℕ)) → AllByRecursion Printable fs → Lacks 10 (tabbed fs)
 line_lacks [] h = tt
 line_lacks (f ∷ []) h = printable_lacks 10 (omega arith) f h.0
 line_lacks (f ∷ g ∷ gs) h =
@@ -99,13 +99,13 @@ module _ {X : Type 0} (g : X → List ℕ) where
   abbrev ended : X → List ℕ
   ended x = g x ++ (10 ∷ [])
 
-  pub lines_joined : (xs : List X) (rest : List ℕ) → All (λ x. Lacks 10 (g x)) xs → lines_of (flat_map ended xs ++ rest) ≡ map g xs ++ lines_of rest
+  pub lines_joined : (xs : List X) (rest : List ℕ) → AllByRecursion (λ x. Lacks 10 (g x)) xs → lines_of (flat_map ended xs ++ rest) ≡ map g xs ++ lines_of rest
   lines_joined [] rest h = refl
   lines_joined (x ∷ xs) rest h =
       ap lines_of (append_assoc (ended x) (flat_map ended xs) rest ∙ append_assoc (g x) (10 ∷ []) (flat_map ended xs ++ rest))
       ∙ line_first (g x) (flat_map ended xs ++ rest) h.0 ∙ ap (λ (ls : List (List ℕ)). g x ∷ ls) (lines_joined xs rest h.1)
 
-  pub length-joined : (m : ℕ) (xs : List X) → All (λ x. length (ended x) ≤ m) xs → length (flat_map ended xs) ≤ m * length xs
+  pub length-joined : (m : ℕ) (xs : List X) → AllByRecursion (λ x. length (ended x) ≤ m) xs → length (flat_map ended xs) ≤ m * length xs
   length-joined m [] h = omega (arith, mul-zero m)
   length-joined m (x ∷ xs) h =
       let rest = length-joined m xs h.1 in omega (arith, length-append (ended x) (flat_map ended xs), mul-suc m (length xs), h.0)

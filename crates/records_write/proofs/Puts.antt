@@ -1,7 +1,7 @@
 -- Text put on a page, piece after piece.
 use Rattle.std.proofs.Common.{◌≡◌, ℕ, zero, suc, ◌+◌, ◌<◌, ◌≤◌, List, [], ◌∷◌, ◌++◌, map, length, get_or, take, Some, None, decimal, sym, refl, ap, ◌∙◌, append_assoc, arith}
 use Rattle.std.specs.Fmt.{signed_decimal}
-use Rattle.std.specs.List.{flat_map, AllByRecursion as All, slice_get}
+use Rattle.std.specs.List.{flat_map, AllByRecursion, slice_get}
 use Rattle.std.proofs.lemmas.Fmt.{length-decimal-le}
 use Rattle.std.proofs.ByRecursion.{All-weaker, All-get_or}
 use Rattle.std.proofs.lemmas.List.{append-nil, take_more, flat_map_more, map_more, length-map, length-take, length-take-le}
@@ -82,7 +82,7 @@ pub name_short : (n : Name) → length (spelled n) ≤ 12
 name_short n = omega (arith, length-take n.len n.bytes, n.short)
 
 -- a term of a bound with short delays
-pub short_at : (ts : List Term) (i : ℕ) (d : Term) → i < length ts → All ShortDelay (map term_of ts) → ShortDelay (term_of (get_or ts i d))
+pub short_at : (ts : List Term) (i : ℕ) (d : Term) → i < length ts → AllByRecursion ShortDelay (map term_of ts) → ShortDelay (term_of (get_or ts i d))
 short_at [] i d lt h = absurd (omega arith)
 short_at (t ∷ ts) zero d lt h = h.0
 short_at (t ∷ ts) (suc i) d lt h = short_at ts i d (omega arith) h.1
@@ -96,7 +96,7 @@ sized b =
     length-map (take b.count b.terms) term_of ∙ length-take-le b.count b.terms (omega (arith, b.most, b.long)) in
     (omega (arith, long, b.some), omega (arith, long, b.most))
 
-all-sized : (bs : List Bound) → All (λ (b : BoundModel). (1 ≤ length b.terms) × (length b.terms ≤ 8)) (map bound_of bs)
+all-sized : (bs : List Bound) → AllByRecursion (λ (b : BoundModel). (1 ≤ length b.terms) × (length b.terms ≤ 8)) (map bound_of bs)
 all-sized [] = tt
 all-sized (b ∷ bs) = (sized b, all-sized bs)
 
@@ -105,13 +105,13 @@ module _ {R : Type 0} {G : Ghosts R} (d : Drawn R G) where
   names = (sheet_of d).names
 
   -- the terms of a bound have short delays
-  pub delays_short : (i : ℕ) (b : BoundModel) → i < length (sheet_of d).bounds → b ≡ get_or (sheet_of d).bounds i b → All ShortDelay b.terms
+  pub delays_short : (i : ℕ) (b : BoundModel) → i < length (sheet_of d).bounds → b ≡ get_or (sheet_of d).bounds i b → AllByRecursion ShortDelay b.terms
   delays_short i b lt read =
       rw read
       (All-weaker (TermWithin (length names) delay_limit) ShortDelay (λ t w. delay_long t.delay w.1 w.2) (get_or (sheet_of d).bounds i b).terms
       (All-get_or (BoundWithin (length names) delay_limit) (sheet_of d).bounds i b lt (sheet_is d).bounds).1)
 
-  pub made_of : All ByteSized (sheet_of d).bounds → Made (sheet_of d)
+  pub made_of : AllByRecursion ByteSized (sheet_of d).bounds → Made (sheet_of d)
   made_of bytes = record {
     few = few_events d;
     named = record { well = all-names d; apart = d.apart };

@@ -3,7 +3,7 @@ use Rattle.std.proofs.Common.{◌≡◌, ℕ, ◌+◌, ◌-◌, ◌*◌, ◌/◌
 use lib.Signed.{mag}
 use Rattle.std.specs.Option.{ok_or}
 use Rattle.std.specs.Fmt.{signed_decimal}
-use Rattle.std.specs.List.{AllByRecursion as All}
+use Rattle.std.specs.List.{AllByRecursion}
 use Rattle.std.proofs.ByRecursion.{All-get_or}
 use Rattle.std.proofs.lemmas.List.{append-nil, length-append, get_or_at, get_or-append-add}
 use Rattle.std.proofs.lemmas.Int.{ints}
@@ -36,7 +36,7 @@ use Rattle.records_write.proofs.Lines.{Printable, printable_name, printable_deci
 
 -- names as a sheet has them
 pub record Named (names : List (List ℕ)) : Type 0 where
-  pub well : All (λ n. is_name n ≡ true) names
+  pub well : AllByRecursion (λ n. is_name n ≡ true) names
   pub apart : Distinct names
 
 -- a bound as a sheet has it
@@ -46,10 +46,10 @@ pub record Shaped (names : List (List ℕ)) (b : BoundModel) : Type 0 where
   pub k : b.k < 256
   pub some : 1 ≤ length b.terms
   pub most : length b.terms ≤ 8
-  pub terms : All (TermWithin (length names) delay_limit) b.terms
+  pub terms : AllByRecursion (TermWithin (length names) delay_limit) b.terms
 
 -- a line of printable fields passes as text
-pub line_passes : (names : List (List ℕ)) (n : ℕ) (f : List ℕ) (fs : List (List ℕ)) → All Printable (f ∷ fs)
+pub line_passes : (names : List (List ℕ)) (n : ℕ) (f : List ℕ) (fs : List (List ℕ)) → AllByRecursion Printable (f ∷ fs)
     → line_says names n (tabbed (f ∷ fs)) ≡ fields_say names n (f ∷ fs)
 line_passes names n f fs h =
     ap (λ (r : Result (Unit {0}) TextFault). and_then (carried (λ t. Record (Text t)) r) (λ _. fields_say names n (fields_of (tabbed (f ∷ fs)))))
@@ -97,7 +97,7 @@ module _ (names : List (List ℕ)) (ok : Named names) where
       rw (from, delay, event_read (placed n j) t.from w.0, delay_read (placed n (j + 1)) t.delay w.1 w.2)
 
   terms_read : (n : ℕ) (fs front : List (List ℕ)) (ts : List TermModel) (j : ℕ) (said : List Term)
-      → fs ≡ front ++ term_fields names ts → j ≡ length front → All (TermWithin (length names) delay_limit) ts
+      → fs ≡ front ++ term_fields names ts → j ≡ length front → AllByRecursion (TermWithin (length names) delay_limit) ts
       → groups_from (term_at names n fs) 2 (length ts) j said ≡ Ok (said ++ map as_term ts)
   terms_read n fs front [] j said e at w = ap Ok (sym (append-nil said))
   terms_read n fs front (t ∷ ts) j said e at w =
@@ -134,14 +134,14 @@ module _ (names : List (List ℕ)) (ok : Named names) where
         terms_same b.terms,
       )
 
-  printable_terms : (ts : List TermModel) → All (TermWithin (length names) delay_limit) ts → All Printable (term_fields names ts)
+  printable_terms : (ts : List TermModel) → AllByRecursion (TermWithin (length names) delay_limit) ts → AllByRecursion Printable (term_fields names ts)
   printable_terms [] w = tt
   printable_terms (t ∷ ts) w = (
     printable_name (get_or names t.from []) (name_is t.from w.0.0),
     (printable_signed t.delay (omega (arith, delay_small t.delay w.0.1 w.0.2)), printable_terms ts w.1),
   )
 
-  pub printable_limit : (b : BoundModel) → Shaped names b → All Printable (limit_fields names b)
+  pub printable_limit : (b : BoundModel) → Shaped names b → AllByRecursion Printable (limit_fields names b)
   printable_limit b shaped = (
     ((omega arith, omega arith), ((omega arith, omega arith), ((omega arith, omega arith), ((omega arith, omega arith), ((omega arith, omega arith), tt))))),
     (
@@ -156,7 +156,7 @@ module _ (names : List (List ℕ)) (ok : Named names) where
   pub limit_says_lem : (n : ℕ) (b : BoundModel) → Shaped names b → line_says names n (tabbed (limit_fields names b)) ≡ Ok (some_bounds (b ∷ []))
   limit_says_lem n b shaped = line_passes names n (codes "limit") (decimal b.kind ∷ decimal b.k ∷ get_or names b.to [] ∷ term_fields names b.terms) (printable_limit b shaped) ∙ limit_fields_lem n b shaped
 
-pub printable_event : (name : List ℕ) → is_name name ≡ true → All Printable (event_fields name)
+pub printable_event : (name : List ℕ) → is_name name ≡ true → AllByRecursion Printable (event_fields name)
 printable_event name is = (
   ((omega arith, omega arith), ((omega arith, omega arith), ((omega arith, omega arith), ((omega arith, omega arith), ((omega arith, omega arith), tt))))),
   (printable_name name is, tt),

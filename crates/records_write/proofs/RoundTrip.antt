@@ -1,7 +1,7 @@
 -- Loading the text of a sheet under rules that admit its bounds gives the sheet.
 use Rattle.std.proofs.Common.{◌≡◌, ℕ, suc, ◌+◌, ◌*◌, ◌<◌, ◌≤◌, true, false, ltb, List, [], ◌∷◌, ◌++◌, map, length, get_or, ℤ, pos, negsuc, neg_ℤ, ◌≤ℤ◌, is_some, None, Ok, decimal, Result, sym, refl, ap, ◌∙◌, subst, ⊎_elim, append_assoc, add-zero, arith}
 use Rattle.std.specs.Fmt.{signed_decimal}
-use Rattle.std.specs.List.{flat_map, AllByRecursion as All}
+use Rattle.std.specs.List.{flat_map, AllByRecursion}
 use Rattle.std.specs.Str.{bytes_eq}
 use Rattle.std.proofs.lemmas.Fmt.{length-decimal-le, length_signed_le}
 use Rattle.std.proofs.ByRecursion.{All-get_or, All-weaker}
@@ -33,7 +33,7 @@ pub record Made (s : PlainSheet) : Type 0 where
   pub few : length s.names ≤ 64
   pub named : Named s.names
   pub most : length s.bounds ≤ 256
-  pub shaped : All (Shaped s.names) s.bounds
+  pub shaped : AllByRecursion (Shaped s.names) s.bounds
 
 -- a name that stands nowhere has no number
 differ : (x y : List ℕ) → (x ≡ y → ⊥) → bytes_eq x y ≡ false
@@ -65,7 +65,7 @@ module _ (admits : Admits) (slots : ℕ) where
       (event_says_lem pre n x is fresh)
       ∙ rw (lt-ltb (length pre) 64 few)
 
-  events_add : (n : ℕ) (pre xs : List (List ℕ)) (ls : List (List ℕ)) → All (λ x. is_name x ≡ true) xs → Distinct (pre ++ xs) → length pre + length xs ≤ 64
+  events_add : (n : ℕ) (pre xs : List (List ℕ)) (ls : List (List ℕ)) → AllByRecursion (λ x. is_name x ≡ true) xs → Distinct (pre ++ xs) → length pre + length xs ≤ 64
       → lines_add admits slots n (record { sheet = record { names = pre; bounds = [] }; needs = [] }) (map (λ x. tabbed (event_fields x)) xs ++ ls)
       ≡ lines_add admits slots (n + length xs) (record { sheet = record { names = pre ++ xs; bounds = [] }; needs = [] }) ls
   events_add n pre [] ls named apart few = simp (append-nil, add-zero)
@@ -86,7 +86,7 @@ module _ (admits : Admits) (slots : ℕ) where
         (limit_says_lem names named n b shaped)
         ∙ rw (lawful, lt-ltb (length pre) 256 few)
 
-    limits-add : (n : ℕ) (pre bs : List BoundModel) (ls : List (List ℕ)) → All (Shaped names) bs → each (admitted admits) bs ≡ true → length pre + length bs ≤ 256
+    limits-add : (n : ℕ) (pre bs : List BoundModel) (ls : List (List ℕ)) → AllByRecursion (Shaped names) bs → each (admitted admits) bs ≡ true → length pre + length bs ≤ 256
         → lines_add admits slots n (record { sheet = record { names = names; bounds = pre }; needs = [] }) (map (λ b. tabbed (limit_fields names b)) bs ++ ls)
         ≡ lines_add admits slots (n + length bs) (record { sheet = record { names = names; bounds = pre ++ bs }; needs = [] }) ls
     limits-add n pre [] ls shaped lawful few = simp (append-nil, add-zero)
@@ -116,7 +116,7 @@ module _ (names : List (List ℕ)) (named : Named names) where
   name_long : (i : ℕ) → i < length names → length (get_or names i []) ≤ 12
   name_long i lt = (name_parts (get_or names i []) (All-get_or (λ n. is_name n ≡ true) names i [] lt named.well)).1
 
-  terms_long : (f : List ℕ) (ts : List TermModel) → All (TermWithin (length names) delay_limit) ts
+  terms_long : (f : List ℕ) (ts : List TermModel) → AllByRecursion (TermWithin (length names) delay_limit) ts
       → length (tabbed (f ∷ term_fields names ts)) ≤ length f + 22 * length ts
   terms_long f [] w = omega arith
   terms_long f (t ∷ ts) w =

@@ -1,6 +1,6 @@
 //! Write: a sheet as text, into bytes handed in.
 ghost use Rattle.std.specs.Prelude.{◌≡◌, ◌+◌, ◌*◌, ◌<◌, ◌≤◌, [], ◌∷◌, ◌++◌, map, length, decimal, slice_index_or};
-ghost use Rattle.std.specs.List.{flat_map, AllByRecursion as All};
+ghost use Rattle.std.specs.List.{flat_map, AllByRecursion};
 ghost use Rattle.timing.specs.Bounds.{term_of, bound_of};
 ghost use Rattle.timing.specs.Model.{BoundModel};
 ghost use Rattle.sheet.specs.Model.{sheet_of};
@@ -48,7 +48,7 @@ fn put_term<R: RuleSet>(page: &mut Page, sheet: &Drawn<R>, term: &Term)
 }
 
 fn put_terms<R: RuleSet>(page: &mut Page, sheet: &Drawn<R>, terms: &[Term])
-    requires { (page.old.len + 22 * length terms.now ≤ 65536) × (All ShortDelay (map term_of terms.now)) }
+    requires { (page.old.len + 22 * length terms.now ≤ 65536) × (AllByRecursion ShortDelay (map term_of terms.now)) }
     ensures text { shown page.new ≡ shown page.old ++ after_tabs (term_fields (sheet_of sheet.now).names (map term_of terms.now)) }
     ensures len { page.new.len ≤ page.old.len + 22 * length terms.now }
 {
@@ -67,7 +67,7 @@ fn put_number(page: &mut Page, number: u8)
 }
 
 fn put_bound<R: RuleSet>(page: &mut Page, sheet: &Drawn<R>, bound: &Bound)
-    requires { (page.old.len + 203 ≤ 65536) × (All ShortDelay (bound_of bound.now).terms) }
+    requires { (page.old.len + 203 ≤ 65536) × (AllByRecursion ShortDelay (bound_of bound.now).terms) }
     ensures text { shown page.new ≡ shown page.old ++ line_of (limit_fields (sheet_of sheet.now).names (bound_of bound.now)) }
     ensures len { page.new.len ≤ page.old.len + 203 }
     ensures bytes { ByteSized (bound_of bound.now) }
@@ -119,7 +119,7 @@ fn put_bounds<R: RuleSet>(page: &mut Page, sheet: &Drawn<R>)
     requires { page.old.len + 51968 ≤ 65536 }
     ensures text { shown page.new ≡ shown page.old ++ flat_map (λ b. line_of (limit_fields (sheet_of sheet.now).names b)) (sheet_of sheet.now).bounds }
     ensures len { page.new.len ≤ page.old.len + 51968 }
-    ensures bytes { All ByteSized (sheet_of sheet.now).bounds }
+    ensures bytes { AllByRecursion ByteSized (sheet_of sheet.now).bounds }
 {
     for number in 0..sheet.bound_count() {
         put_bound_line(page, sheet, number);

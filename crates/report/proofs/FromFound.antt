@@ -1,6 +1,6 @@
 -- What is found by settling from the first event: a knot, or some timetable that keeps the bounds.
-use Rattle.std.proofs.Common.{◌≡◌, ℕ, zero, suc, ◌<◌, ◌≤◌, Bool, true, false, cond, ltb, List, [], ◌∷◌, ◌++◌, length, get_or, ℤ, pos, Ok, Err, Result, sym, refl, ap, ◌∙◌, subst, inl, arith}
-use Rattle.std.specs.List.{AllByRecursion as All}
+use Rattle.std.proofs.Common.{◌≡◌, ℕ, zero, suc, ◌≤◌, Bool, true, false, cond, ltb, List, [], ◌∷◌, ◌++◌, length, get_or, pos, Result, refl, ap, ◌∙◌, subst, inl, arith}
+use Rattle.std.specs.List.{AllByRecursion}
 use Rattle.std.proofs.lemmas.Bool.{cond-true, cond_both, both_ways, lt-ltb}
 use Rattle.rules.specs.Sets.{vote_enough}
 use Rattle.timing.specs.Limits.{delay_limit}
@@ -8,7 +8,6 @@ use Rattle.timing.specs.Model.{BoundModel, BoundWithin, IsSheet}
 use Rattle.timing.specs.Timetables.{KeepsAll, times}
 use Rattle.sheet.specs.Plain.{PlainSheet}
 use Rattle.sheet.specs.declared.fault.Refusal.{Refusal}
-use Rattle.sheet.specs.declared.fault.Refusal.TheVariants.{NoSuchEvent, NoSuchBound, Contradictory}
 use Rattle.settle.specs.declared.reading.Reading.{Reading}
 use Rattle.settle.specs.declared.settled.Found.{Found}
 use Rattle.settle.specs.declared.settled.Found.TheVariants.{NoSource, Placed, Knotted}
@@ -36,7 +35,7 @@ knot_found s needs (Placed places) right e =
 knot_found s needs (Knotted flags) right e = inl (right.1, (_, right.2, knot_same s flags (length s.bounds) (omega arith)))
 
 -- a sheet without events has no bounds
-none_kept : (bs : List BoundModel) → All (BoundWithin 0 delay_limit) bs → KeepsAll vote_enough bs (λ _. pos 0)
+none_kept : (bs : List BoundModel) → AllByRecursion (BoundWithin 0 delay_limit) bs → KeepsAll vote_enough bs (λ _. pos 0)
 none_kept [] h = tt
 none_kept (b ∷ bs) h = absurd (omega (arith, h.0.0))
 
@@ -44,7 +43,7 @@ pub keeping_found : (s : PlainSheet) (found : Found) → IsSheet 64 delay_limit 
     → said_contradictory (read_held s found 0) ≡ false → Consistent vote_enough s.bounds
 keeping_found s NoSource sheet right e =
     let none : events s ≡ 0 = omega arith in
-    ((λ _. pos 0), none_kept s.bounds (subst (λ (n : ℕ). All (BoundWithin n delay_limit) s.bounds) none sheet.bounds))
+    ((λ _. pos 0), none_kept s.bounds (subst (λ (n : ℕ). AllByRecursion (BoundWithin n delay_limit) s.bounds) none sheet.bounds))
 keeping_found s (Placed places) sheet right e = (times places, right.1.eligible.keeps)
 keeping_found s (Knotted flags) sheet right e =
     absurd (both_ways _ e (ap said_contradictory (cond-true _ _ _ (lt-ltb 0 (events s) right.0))))

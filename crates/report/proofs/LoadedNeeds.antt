@@ -1,10 +1,10 @@
 -- The needs of a text that loads are between events of its sheet.
-use Rattle.std.proofs.Common.{◌≡◌, ℕ, ◌+◌, ◌-◌, ◌<◌, ◌≤◌, Bool, true, false, cond, ltb, leb, List, [], ◌∷◌, ◌++◌, length, take, replicate, Ok, Err, Result, sym, refl, ap, ◌∙◌, subst, arith, length-append}
-use Rattle.std.specs.List.{AllByRecursion as All}
+use Rattle.std.proofs.Common.{◌≡◌, ℕ, ◌+◌, ◌-◌, Bool, true, false, cond, ltb, List, [], ◌∷◌, ◌++◌, length, take, replicate, Ok, Err, Result, sym, refl, ap, ◌∙◌, subst, arith, length-append}
+use Rattle.std.specs.List.{AllByRecursion}
 use Rattle.std.proofs.ByRecursion.{All-weaker, All-push}
 use Rattle.std.proofs.lemmas.List.{take_at}
 use Rattle.rules.specs.Laws.{Admits}
-use Rattle.text.specs.Checks.{each, whole_text, and_then}
+use Rattle.text.specs.Checks.{whole_text, and_then}
 use Rattle.text.specs.Split.{lines_of}
 use Rattle.text.specs.declared.fault.TextFault.{TextFault}
 use Rattle.timing.specs.Model.{BoundModel}
@@ -25,7 +25,7 @@ Then P (Ok x) = P x
 Then P (Err e) = Unit {0}
 
 abbrev pub AllKnown : State → Type 0
-AllKnown s = All (Known (length s.sheet.names)) s.needs
+AllKnown s = AllByRecursion (Known (length s.sheet.names)) s.needs
 
 -- one event more
 grown : (names : List (List ℕ)) (name : List ℕ) (need : Need) → Known (length names) need → Known (length (names ++ (name ∷ []))) need
@@ -68,7 +68,7 @@ module _ (A : Admits) (slots : ℕ) where
   added_known n s (some_bounds bounds) f g = go (bounds_added A n s.sheet bounds) (bounds_names n s.sheet bounds)
     where
       go : (r : Result PlainSheet LoadFault) → Then (Named s.sheet) r → Then AllKnown (map_ok (λ t. record { sheet = t; needs = s.needs }) r)
-      go (Ok t) h = subst (λ (ns : List (List ℕ)). All (Known (length ns)) s.needs) (sym h) g
+      go (Ok t) h = subst (λ (ns : List (List ℕ)). AllByRecursion (Known (length ns)) s.needs) (sym h) g
       go (Err fault) h = tt
   added_known n s (a_need need) f g = go (ltb (length s.needs) slots)
     where
@@ -119,7 +119,7 @@ loads (Ok state) count slots sheet all a s w =
 loads (Err fault) count slots sheet all a s w = absurd (grind arith)
 
 pub needs_known : (A : Admits) (slots : ℕ) (text : List ℕ) (sheet : PlainSheet) (needs : List Need) → Loads (loaded A slots text) sheet needs
-    → All (Known (length sheet.names)) needs
+    → AllByRecursion (Known (length sheet.names)) needs
 needs_known A slots text sheet needs l =
-    subst (λ (s : PlainSheet). All (Known (length s.names)) needs) (sym l.sheet_is)
-    (subst (All (Known (length l.state.sheet.names))) (sym l.needs_are) (loaded_known A slots text l.state l.was))
+    subst (λ (s : PlainSheet). AllByRecursion (Known (length s.names)) needs) (sym l.sheet_is)
+    (subst (AllByRecursion (Known (length l.state.sheet.names))) (sym l.needs_are) (loaded_known A slots text l.state l.was))

@@ -1,11 +1,11 @@
 -- What is put of a need is what is to be printed of it.
-use Rattle.std.proofs.Common.{◌≡◌, ℕ, zero, suc, ◌+◌, ◌<◌, ◌≤◌, Bool, true, false, cond, ltb, List, [], ◌∷◌, ◌++◌, length, get_or, take, ℤ, Some, None, Ok, Err, Option, Result, sym, refl, ap, ◌∙◌, subst, inl, inr, ⊎_elim, append_assoc, append-nil, arith}
-use Rattle.std.specs.List.{slice_get, AllByRecursion as All}
+use Rattle.std.proofs.Common.{◌≡◌, ℕ, zero, suc, ◌+◌, ◌<◌, ◌≤◌, Bool, true, false, cond, List, [], ◌∷◌, ◌++◌, length, get_or, take, ℤ, Some, Ok, Option, Result, sym, refl, ap, ◌∙◌, subst, inl, inr, append_assoc, append-nil, arith}
+use Rattle.std.specs.List.{slice_get, AllByRecursion}
 use Rattle.std.proofs.ByRecursion.{All-get_or}
 use Rattle.std.proofs.lemmas.List.{take_more}
 use Rattle.std.proofs.lemmas.Option.{slice_get-get_or}
-use Rattle.std.proofs.lemmas.Bool.{cond-true, cond-false, cases_Bool, lt-ltb}
-use Rattle.rules.specs.Sets.{vote_admits, vote_enough}
+use Rattle.std.proofs.lemmas.Bool.{cond-true, lt-ltb}
+use Rattle.rules.specs.Sets.{vote_enough}
 use Rattle.rules.specs.SetsLemmas.{vote_laws}
 use Rattle.timing.specs.Limits.{delay_limit}
 use Rattle.timing.specs.Model.{IsSheet}
@@ -21,7 +21,7 @@ use Rattle.settle.specs.Meaning.{PlacesFrom, Right, Consistent, Judges}
 use Rattle.settle.proofs.Meant.{judges_from}
 use Rattle.records.specs.declared.entry.Need.{Need}
 use Rattle.report.specs.Known.{Known}
-use Rattle.report.specs.Lines.{at_lines, need_line}
+use Rattle.report.specs.Lines.{at_lines}
 use Rattle.report.specs.Puts.{place_put, places_put, verdict_line, need_put, need_put_by}
 use Rattle.report.specs.Report.{NeedPrinted, NeedsPrinted, Puts}
 
@@ -82,7 +82,7 @@ needs_push s (x ∷ xs) need out more h p =
 
 -- a turn of the loop: the sheet t that was settled is the sheet s
 pub needs_step : (s t : PlainSheet) (found : Found) (before here out : List ℕ) (needs : List Need) (i : ℕ) (d : Need) (source : ℕ) → t ≡ s
-    → IsSheet 64 delay_limit (events t) t.bounds → Consistent vote_enough s.bounds → All (Known (events s)) needs → i < length needs
+    → IsSheet 64 delay_limit (events t) t.bounds → Consistent vote_enough s.bounds → AllByRecursion (Known (events s)) needs → i < length needs
     → source ≡ (get_or needs i d).from → Right vote_enough t source found → Puts (NeedsPrinted s (take i needs)) before here
     → out ≡ here ++ need_put_by t (read_held t found) (get_or needs i d) → Puts (NeedsPrinted s (take (i + 1) needs)) before out
 needs_step s t found before here out needs i d source same sheet some known lt from right put is =

@@ -6,9 +6,9 @@ use Rattle.sheet.specs.declared.fault.Refusal.{Refusal}
 use Rattle.sheet.specs.declared.fault.Refusal.TheVariants.{NoSuchSource, NoSuchEvent, NoSuchBound, Contradictory, NotContradictory}
 use Rattle.settle.specs.declared.reading.Reading.{Reading}
 use Rattle.settle.specs.Held.{within}
-use Rattle.settle.specs.Promise.{ReadAnswers, KnotAnswers}
+use Rattle.settle.specs.Promise.{ReadAnswers}
 use Rattle.records.specs.declared.entry.Need.{Need}
-use Rattle.report.specs.Lines.{printed, knot_lines, at_line, separation_field}
+use Rattle.report.specs.Lines.{printed, at_line, separation_field}
 use Rattle.std.specs.Fmt.{signed_decimal}
 
 -- knot says yes

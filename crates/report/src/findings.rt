@@ -1,6 +1,6 @@
 //! What is found in a sheet: its knot where it is contradictory, and else the verdicts on its needs.
 ghost use Rattle.std.specs.Prelude.{◌≡◌, cond, [], ◌++◌, length, codes, OnOk};
-ghost use Rattle.std.specs.List.{slice_get, AllByRecursion as All};
+ghost use Rattle.std.specs.List.{slice_get, AllByRecursion};
 ghost use Rattle.text.specs.Spelled.{spelled};
 ghost use Rattle.rules.specs.Sets.{vote_enough};
 ghost use Rattle.sheet.specs.Model.{sheet_of};
@@ -183,7 +183,7 @@ fn put_need(out: &mut Vec<u8>, settled: &Settled<Vote>, need: &Need) -> Result<(
 /// Adds the needs of a sheet that some timetable keeps, each settled from its FROM.
 fn put_needs(out: &mut Vec<u8>, sheet: Drawn<Vote>, needs: &[Need]) -> Result<(), AllocError>
     requires some { Consistent vote_enough (sheet_of sheet).bounds }
-    requires known { All (Known (length (sheet_of sheet).names)) needs.now }
+    requires known { AllByRecursion (Known (length (sheet_of sheet).names)) needs.now }
     ensures { OnOk result (Puts (NeedsPrinted (sheet_of sheet) needs.now) out.old.items out.new.items) }
 {
     let mut drawn = sheet;
@@ -208,7 +208,7 @@ pub(crate) fn put_findings(
     sheet: Drawn<Vote>,
     needs: &[Need],
 ) -> Result<(), AllocError>
-    requires known { All (Known (length (sheet_of sheet).names)) needs.now }
+    requires known { AllByRecursion (Known (length (sheet_of sheet).names)) needs.now }
     ensures { OnOk result (Puts (Findings (sheet_of sheet) needs.now) out.old.items out.new.items) }
 {
     let settled = settle(sheet, 0);

@@ -1,7 +1,7 @@
 -- The set of the elements of a list that pass a test: how it grows, and law 1 over such sets.
 use Rattle.std.proofs.Common.{◌≡◌, ℕ, ◌+◌, ◌-◌, ◌*◌, ◌/◌, ◌%◌, ◌^◌, ◌<◌, min, Bool, true, false, cond, List, [], ◌∷◌, ◌++◌, map, length, get_or, take, refl, ap, ◌∙◌, subst, ap₂, mul_assoc, pow-suc, arith, length-take-le, pow_pos}
 use lib.Bits.{bit_and, bit_or, and_step, or_comm}
-use Rattle.std.specs.List.{AllByRecursion as All}
+use Rattle.std.specs.List.{AllByRecursion}
 use Rattle.std.proofs.lemmas.Nat.{or_shifted, one_shl}
 use Rattle.std.proofs.lemmas.List.{take_more}
 use Rattle.rules.specs.Laws.{Admits, Enough, Laws, Within}
@@ -64,22 +64,22 @@ module _ {X : Type 0} where
       let none : cond (p (get_or xs i d)) 1 0 * 2 ^ length (take i xs) ≡ 0 * 2 ^ length (take i xs) = rw t in
       omega arith
 
-  pub mask_same : (p q : X → Bool) (xs : List X) → All (λ x. p x ≡ q x) xs → mask_by p xs ≡ mask_by q xs
+  pub mask_same : (p q : X → Bool) (xs : List X) → AllByRecursion (λ x. p x ≡ q x) xs → mask_by p xs ≡ mask_by q xs
   mask_same p q [] a = refl
   mask_same p q (x ∷ xs) a = ap₂ (λ (b : Bool) (m : ℕ). cond b 1 0 + 2 * m) a.0 (mask_same p q xs a.1)
 
-  pub mask_none : (p : X → Bool) (xs : List X) → All (λ x. p x ≡ false) xs → mask_by p xs ≡ 0
+  pub mask_none : (p : X → Bool) (xs : List X) → AllByRecursion (λ x. p x ≡ false) xs → mask_by p xs ≡ 0
   mask_none p [] a = refl
   mask_none p (x ∷ xs) a = ap₂ (λ (b : Bool) (m : ℕ). cond b 1 0 + 2 * m) a.0 (mask_none p xs a.1)
 
-  pub mask_full : (p : X → Bool) (xs : List X) → All (λ x. p x ≡ true) xs → mask_by p xs ≡ 2 ^ length xs - 1
+  pub mask_full : (p : X → Bool) (xs : List X) → AllByRecursion (λ x. p x ≡ true) xs → mask_by p xs ≡ 2 ^ length xs - 1
   mask_full p [] a = refl
   mask_full p (x ∷ xs) a =
       ap₂ (λ (b : Bool) (m : ℕ). cond b 1 0 + 2 * m) a.0 (mask_full p xs a.1)
       ∙ omega (arith, pow-suc 2 (length xs), pow_pos (length xs))
 
   -- where each element that passes p passes q too, the first set is a subset of the second
-  pub mask_within : (p q : X → Bool) (xs : List X) → All (λ x. p x ≡ true → q x ≡ true) xs → Within (mask_by p xs) (mask_by q xs)
+  pub mask_within : (p q : X → Bool) (xs : List X) → AllByRecursion (λ x. p x ≡ true → q x ≡ true) xs → Within (mask_by p xs) (mask_by q xs)
   mask_within p q [] a = refl
   mask_within p q (x ∷ xs) a =
       let m = mask_by p xs in
@@ -96,6 +96,6 @@ mask_map p f (x ∷ xs) = ap (λ (m : ℕ). cond (p (f x)) 1 0 + 2 * m) (mask_ma
 
 -- law 1 over tests: where each term that passes p passes q too, and the first are enough, so are the second
 pub enough_more : {X : Type 0} {admits : Admits} {enough : Enough} (laws : Laws admits enough) (kind k : ℕ) (p q : X → Bool) (xs : List X)
-    → All (λ x. p x ≡ true → q x ≡ true) xs → enough kind k (length xs) (mask_by p xs) ≡ true → enough kind k (length xs) (mask_by q xs) ≡ true
+    → AllByRecursion (λ x. p x ≡ true → q x ≡ true) xs → enough kind k (length xs) (mask_by p xs) ≡ true → enough kind k (length xs) (mask_by q xs) ≡ true
 enough_more laws kind k p q xs each e =
     laws.grows kind k (length xs) (mask_by p xs) (mask_by q xs) (mask_lt q xs) (mask_within p q xs each) e

@@ -1,6 +1,6 @@
 -- What later layers need of every drawn sheet: it is a sheet of the timing model, and each event is found by its name.
 use Rattle.std.proofs.Common.{◌≡◌, ℕ, ◌<◌, ◌≤◌, true, List, [], length, get_or, Some, vec_items, arith}
-use Rattle.std.specs.List.{AllByRecursion as All}
+use Rattle.std.specs.List.{AllByRecursion}
 use Rattle.std.proofs.ByRecursion.{all_from_every, All-map, All-get_or}
 use Rattle.text.specs.Names.{is_name}
 use Rattle.text.specs.Spelled.{spelled}
@@ -15,7 +15,7 @@ use Rattle.sheet.proofs.Numbering.{number_of_name as distinct-numbers}
 use Rattle.sheet.proofs.Outcomes.{event_count, bound_count}
 use Rattle.sheet.proofs.Terms.{terms_within}
 
-names_are : (ns : List Name) → All (λ (n : Name). is_name (spelled n) ≡ true) ns
+names_are : (ns : List Name) → AllByRecursion (λ (n : Name). is_name (spelled n) ≡ true) ns
 names_are ns = all_from_every (λ (n : Name). is_name (spelled n) ≡ true) ns (λ i d _ _. (get_or ns i d).named)
 
 module _ {R : Type 0} {G : Ghosts R} (d : Drawn R G) where
@@ -34,7 +34,7 @@ module _ {R : Type 0} {G : Ghosts R} (d : Drawn R G) where
   }
 
   -- each name is a name
-  pub all-names : All (λ (n : List ℕ). is_name n ≡ true) (sheet_of d).names
+  pub all-names : AllByRecursion (λ (n : List ℕ). is_name n ≡ true) (sheet_of d).names
   all-names = All-map (λ (n : List ℕ). is_name n ≡ true) spelled (vec_items d.names) (names_are (vec_items d.names))
 
   pub name_is : (i : ℕ) → i < length (sheet_of d).names → is_name (get_or (sheet_of d).names i []) ≡ true

@@ -1,7 +1,7 @@
 -- The faults of a bound's terms: the loop that looks for the first one, and what it means that there is none.
 use Rattle.std.proofs.Common.{◌≡◌, ℕ, ◌+◌, ◌<◌, ◌≤◌, Bool, true, false, cond, not, T, ltb, List, [], ◌∷◌, map, length, get_or, drop, ℤ, pos, neg_ℤ, ◌≤ℤ◌, is_some, Some, None, Option, sym, refl, ap, ◌∙◌, subst, arith}
 use lib.Signed.{le_z, le_z_yes}
-use Rattle.std.specs.List.{AllByRecursion as All}
+use Rattle.std.specs.List.{AllByRecursion}
 use Rattle.std.proofs.lemmas.List.{at_drop_more, at_drop_all}
 use Rattle.std.proofs.lemmas.Bool.{cond-true, cond-false, lt-ltb, le-ltb, ltb-true, not_from_true, not_from_false, and_parts, true≢false}
 use Rattle.timing.specs.Bounds.{term_of}
@@ -72,7 +72,7 @@ within : (a b : ℤ) → le_z a b ≡ true → a ≤ℤ b
 within a b e = le_z_yes (subst T (sym e) tt)
 
 -- without a fault every term is within
-pub terms_within : (n : ℕ) (ts : List TermModel) → is_some (terms_fault n ts) ≡ false → All (TermWithin n delay_limit) ts
+pub terms_within : (n : ℕ) (ts : List TermModel) → is_some (terms_fault n ts) ≡ false → AllByRecursion (TermWithin n delay_limit) ts
 terms_within n [] e = tt
 terms_within n (t ∷ ts) e =
     let p = parts (ltb t.from n) (is_delay t.delay) (terms_fault n ts) e in

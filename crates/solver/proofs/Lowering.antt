@@ -1,7 +1,7 @@
 -- A bound that takes part, as the program meets it, and what becomes of a phase when it lowers its event.
 use Rattle.std.proofs.Common.{◌≡◌, ℕ, ◌<◌, ◌≤◌, Bool, true, false, ◌⊎◌, List, map, length, get_or, take, set, ℤ, pos, ◌+ℤ◌, ◌<ℤ◌, sym, ap, ◌∙◌, subst, ap₂, inl, inr, arith}
 use lib.Signed.{le_z}
-use Rattle.std.specs.List.{ContainsAt as Has, AllByRecursion as All}
+use Rattle.std.specs.List.{ContainsAt as Has, AllByRecursion}
 use Rattle.std.proofs.ByRecursion.{All-get_or}
 use Rattle.std.proofs.lemmas.List.{get_or-set_same, get_or-set_other, length-set, length-map, get_or-map}
 use Rattle.std.proofs.lemmas.Int.{ints, by_lt_z}
@@ -59,7 +59,7 @@ met flags bounds n i b sheet h on is =
     }
 
 pub within-those : (flags : List Bool) (bounds : List Bound) (n : ℕ) → IsSheet 64 delay_limit n (map bound_of bounds)
-    → All (BoundWithin n delay_limit) (taking_part flags bounds)
+    → AllByRecursion (BoundWithin n delay_limit) (taking_part flags bounds)
 within-those flags bounds n sheet = all-those (BoundWithin n delay_limit) (flag flags) (map bound_of bounds) sheet.bounds
 
 -- the program can form the sum of each of its terms
@@ -93,7 +93,7 @@ module _ {A : Admits} {E : Enough} (laws : Laws A E) (flags : List Bool) (bounds
   abbrev task : Task
   task = task_of E flags bounds n source
 
-  within : All (BoundWithin n delay_limit) (taking_part flags bounds)
+  within : AllByRecursion (BoundWithin n delay_limit) (taking_part flags bounds)
   within = within-those flags bounds n sheet
 
   -- v is the latest time that the bound permits, and it does not permit TO's time in y

@@ -1,6 +1,6 @@
 -- Passes over the bounds: one that goes round from a first one and has lowered nothing yet, and one that has found each kept.
 use Rattle.std.proofs.Common.{◌≡◌, ℕ, ◌+◌, ◌<◌, ◌≤◌, Bool, true, false, ◌⊎◌, List, map, length, get_or, ℤ, sym, subst, arith, below_more}
-use Rattle.std.specs.List.{AllByRecursion as All}
+use Rattle.std.specs.List.{AllByRecursion}
 use Rattle.std.proofs.lemmas.List.{length-map}
 use Rattle.std.proofs.lemmas.Bool.{both_ways}
 use Rattle.rules.specs.Laws.{Enough}
@@ -52,7 +52,7 @@ module _ {k : Task} {flags : List Bool} {bounds : List Bound} {x y₀ y : List �
 
 -- the pass is over: no bound that takes part asks for more
 pub pass_end : {k : Task} {flags : List Bool} {bounds : List Bound} {x y₀ y : List ℤ} {first step : ℕ} → Pass k flags bounds x y₀ y first step
-    → length bounds ≤ step → All (Quiet k (times x) (times y)) (taking_part flags bounds)
+    → length bounds ≤ step → AllByRecursion (Quiet k (times x) (times y)) (taking_part flags bounds)
 pass_end {k} {flags} {bounds} {x} {y₀} {y} {first} {step} p h =
     those_in (Quiet k (times x) (times y)) (flag flags) (map bound_of bounds) no_bound
     (λ i l on. let l' : i < length bounds = simp length-map at l in p.quiet i l' (seen_all (length bounds) first step i l' h) on)

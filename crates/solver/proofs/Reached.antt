@@ -1,7 +1,7 @@
 -- The latest time that an admitted rule permits is the latest sum that it permits.
 use Rattle.std.proofs.Common.{◌≡◌, ℕ, suc, ◌<◌, true, false, ◌⊎◌, List, [], ◌∷◌, length, get_or, ℤ, pos, ◌+ℤ◌, ◌≤ℤ◌, sym, ap, ◌∙◌, inl, inr, arith}
 use lib.Signed.{le_z}
-use Rattle.std.specs.List.{AllByRecursion as All}
+use Rattle.std.specs.List.{AllByRecursion}
 use Rattle.std.proofs.ByRecursion.{All-from_get_or, All-weaker}
 use Rattle.std.proofs.lemmas.Int.{ints}
 use Rattle.std.proofs.lemmas.Bool.{cases_Bool, both_ways}
@@ -11,8 +11,8 @@ use Rattle.solver.specs.Permitted.{reaching}
 
 -- of the sums not before v, the least is reached by the same terms; or there is none
 abbrev Lowest : ℤ → List ℤ → Type 0
-Lowest v xs = All (λ s. le_z v s ≡ false) xs
-    ⊎ ((k : ℕ) × (k < length xs) × (le_z v (get_or xs k (pos 0)) ≡ true) × All (λ s. le_z v s ≡ le_z (get_or xs k (pos 0)) s) xs)
+Lowest v xs = AllByRecursion (λ s. le_z v s ≡ false) xs
+    ⊎ ((k : ℕ) × (k < length xs) × (le_z v (get_or xs k (pos 0)) ≡ true) × AllByRecursion (λ s. le_z v s ≡ le_z (get_or xs k (pos 0)) s) xs)
 
 -- orders of three times
 itself : (x : ℤ) → le_z x x ≡ true
@@ -47,7 +47,7 @@ lowest v (x ∷ xs) =
       ]
     ]
   where
-    first : le_z v x ≡ true → All (λ s. le_z v s ≡ le_z x s) xs → Lowest v (x ∷ xs)
+    first : le_z v x ≡ true → AllByRecursion (λ s. le_z v s ≡ le_z x s) xs → Lowest v (x ∷ xs)
     first is rest = inr (0, omega arith, is, (is ∙ sym (itself x), rest))
 
 not-before : (r s : ℤ) → r ≤ℤ s → le_z r s ≡ true

@@ -1,6 +1,6 @@
 -- Between the phases, and where the rise has ended.
 use Rattle.std.proofs.Common.{◌≡◌, ℕ, ◌<◌, Bool, List, map, length, ℤ, neg_ℤ, ◌≤ℤ◌, ◌<ℤ◌, subst, inl, arith}
-use Rattle.std.specs.List.{AllByRecursion as All}
+use Rattle.std.specs.List.{AllByRecursion}
 use Rattle.std.proofs.ByRecursion.{All-get_or, All-weaker}
 use Rattle.std.proofs.lemmas.List.{length-map}
 use Rattle.std.proofs.lemmas.Int.{ints}
@@ -20,20 +20,20 @@ use Rattle.solver.proofs.Passes.{bound_at}
 use Rattle.solver.proofs.Lowering.{TimesInRange, within-those}
 
 -- the bounds of a sheet can be tested against times in range
-pub testable : (n : ℕ) (bs : List BoundModel) → IsSheet 64 delay_limit n bs → (x : List ℤ) → TimesInRange n x → All (Testable x) bs
+pub testable : (n : ℕ) (bs : List BoundModel) → IsSheet 64 delay_limit n bs → (x : List ℤ) → TimesInRange n x → AllByRecursion (Testable x) bs
 testable n bs sheet x range =
     let few = sheet.few in
     All-weaker (BoundWithin n delay_limit) (Testable x)
     (λ b w. (omega (arith, w.0), All-weaker (TermWithin n delay_limit) _ (λ m v. ((omega (arith, v.0), v.1, v.2), range m.from v.0)) b.terms w.1)) bs sheet.bounds
 
-pub testable_at : (x : List ℤ) (bounds : List Bound) (i : ℕ) (b : BoundModel) → All (Testable x) (map bound_of bounds) → i < length bounds → bound_at bounds i ≡ b → Testable x b
+pub testable_at : (x : List ℤ) (bounds : List Bound) (i : ℕ) (b : BoundModel) → AllByRecursion (Testable x) (map bound_of bounds) → i < length bounds → bound_at bounds i ≡ b → Testable x b
 testable_at x bounds i b all h is = subst (Testable x) is (All-get_or (Testable x) (map bound_of bounds) i no_bound (simp length-map h) all)
 
 module _ {A : Admits} {E : Enough} (laws : Laws A E) (flags : List Bool) (bounds : List Bound) (n source : ℕ) (sheet : IsSheet 64 delay_limit n (map bound_of bounds)) (x : List ℤ) where
   abbrev task : Task
   task = task_of E flags bounds n source
 
-  within : All (BoundWithin n delay_limit) (taking_part flags bounds)
+  within : AllByRecursion (BoundWithin n delay_limit) (taking_part flags bounds)
   within = within-those flags bounds n sheet
 
   pub first_rising : (v : ℤ) → Level n source v x → v ≡ neg_ℤ (span delay_limit) → Rising task (times x)

@@ -2,7 +2,7 @@
 use Rattle.std.proofs.Common.{◌≡◌, ℕ, zero, suc, ◌+◌, ◌*◌, ◌/◌, ◌%◌, ◌^◌, ◌<◌, ◌≤◌, min, Bool, true, false, cond, List, [], ◌∷◌, ◌++◌, map, length, get_or, take, set, ℤ, pos, ◌+ℤ◌, sym, refl, ap, ◌∙◌, subst, ap₂, arith}
 use lib.Bits.{bit_and, bit_or, and_step, and_zero_l}
 use lib.Signed.{le_z}
-use Rattle.std.specs.List.{AllByRecursion as All}
+use Rattle.std.specs.List.{AllByRecursion}
 use Rattle.std.proofs.ByRecursion.{All-get_or}
 use Rattle.std.proofs.lemmas.List.{length-map, length-set, get_or-map, map-append, take_all, take_more, take_more_set}
 use Rattle.std.proofs.lemmas.Bool.{both_ways}
@@ -137,6 +137,6 @@ module _ (f : TermModel → ℤ) (ts : List Term) where
     none-refused out = sym (ap (A kind k) many) ∙ out
 
 -- what holds of the terms holds of each term of the program
-pub term_at_lem : (P : TermModel → Type 0) (ts : List Term) (j : ℕ) (d : Term) → j < length ts → All P (map term_of ts) → P (term_of (get_or ts j d))
+pub term_at_lem : (P : TermModel → Type 0) (ts : List Term) (j : ℕ) (d : Term) → j < length ts → AllByRecursion P (map term_of ts) → P (term_of (get_or ts j d))
 term_at_lem P ts j d h all =
     subst P (get_or-map term_of ts j d (term_of d) h) (All-get_or P (map term_of ts) j (term_of d) (simp length-map h) all)

@@ -1,6 +1,6 @@
 -- What is to be settled, in the lists that the program holds.
 use Rattle.std.specs.Prelude.{◌≡◌, ℕ, ◌<◌, ◌≤◌, Bool, true, false, ◌⊎◌, List, map, length, ℤ, pos, neg_ℤ, ◌≤ℤ◌, slice_index_or}
-use Rattle.std.specs.List.{AllByRecursion as All}
+use Rattle.std.specs.List.{AllByRecursion}
 use Rattle.rules.specs.Laws.{Enough}
 use Rattle.timing.specs.declared.bound.Bound.{Bound}
 use Rattle.timing.specs.Bounds.{bound_of}
@@ -48,8 +48,8 @@ pub record Level (n source : ℕ) (v : ℤ) (ts : List ℤ) : Type 0 where
 pub record PhaseOver (k : Task) (x y : List ℤ) : Type 0 where
   pub long : length y ≡ 64
   pub stands : Phase k (times x) (times y)
-  pub quiet : All (Quiet k (times x) (times y)) k.bounds
+  pub quiet : AllByRecursion (Quiet k (times x) (times y)) k.bounds
 
 -- a bound that the program can test these times against
 abbrev pub Testable : List ℤ → BoundModel → Type 0
-Testable ts b = (b.to < 64) × All (Summable ts) b.terms
+Testable ts b = (b.to < 64) × AllByRecursion (Summable ts) b.terms

@@ -1,6 +1,6 @@
 //! Settling: the places of the bounds that take part, or that they are contradictory.
 ghost use Rattle.std.specs.Prelude.{◌≡◌, ◌<◌, ◌≤◌, map, length, Decides};
-ghost use Rattle.std.specs.List.{AllByRecursion as All};
+ghost use Rattle.std.specs.List.{AllByRecursion};
 ghost use Rattle.timing.specs.Bounds.{bound_of};
 ghost use Rattle.timing.specs.Limits.{delay_limit};
 ghost use Rattle.timing.specs.Model.{IsSheet};
@@ -56,7 +56,7 @@ fn keeps_all<R: RuleSet>(
     timetable: &[i64; MAX_EVENTS],
 ) -> bool
     requires count { length bounds.now ≤ 256 }
-    requires testable { All (Testable timetable.now) (map bound_of bounds.now) }
+    requires testable { AllByRecursion (Testable timetable.now) (map bound_of bounds.now) }
     ensures { Decides result (KeepsAll (R.RuleSet.suffices rules.now) (taking_part chosen.now bounds.now) (times timetable.now)) }
 {
     'bounds: for (i, b) in bounds.iter().enumerate() {

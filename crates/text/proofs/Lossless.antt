@@ -1,6 +1,6 @@
 -- Lines put together again are the text, and fields the line.
 use Rattle.std.proofs.Common.{◌≡◌, ℕ, suc, ◌-◌, ◌<◌, true, false, cond, eqb, List, [], ◌∷◌, ◌++◌, length, get_or, sym, refl, ap, ◌∙◌, subst, ⊎_elim, arith}
-use Rattle.std.specs.List.{flat_map, AllByRecursion as All}
+use Rattle.std.specs.List.{flat_map, AllByRecursion}
 use Rattle.std.proofs.lemmas.Bool.{cond-true, cond-false, eqb-true, cases_Bool, both_ways}
 use Rattle.std.proofs.lemmas.Bool.Decides.{nat_tests}
 use Rattle.text.specs.Checks.{finished}
@@ -8,7 +8,7 @@ use Rattle.text.specs.Split.{onto, fields_of, lines_of, Lacks, tabbed, LinesMake
 use Rattle.text.proofs.Splits.{ended_cut, parted_some}
 
 -- a byte that is no c, put in front of parts that lack c
-onto_lacks : (c x : ℕ) (ps : List (List ℕ)) → eqb x c ≡ false → All (Lacks c) ps → All (Lacks c) (onto x ps)
+onto_lacks : (c x : ℕ) (ps : List (List ℕ)) → eqb x c ≡ false → AllByRecursion (Lacks c) ps → AllByRecursion (Lacks c) (onto x ps)
 onto_lacks c x [] e h = ((e, tt), tt)
 onto_lacks c x (p ∷ ps) e h = ((e, h.0), h.1)
 

@@ -1,6 +1,6 @@
 -- How a text is cut: into lines, each ended by byte 10, and a line into fields, parted by byte 9.
 use Rattle.std.specs.Prelude.{◌≡◌, ℕ, false, cond, not, List, [], ◌∷◌, ◌++◌, ◌==◌}
-use Rattle.std.specs.List.{flat_map, prefix_len, AllByRecursion as All}
+use Rattle.std.specs.List.{flat_map, prefix_len, AllByRecursion}
 
 -- how many bytes stand before the first c
 abbrev pub before : ℕ → List ℕ → ℕ
@@ -29,7 +29,7 @@ fields_of line = parted_by 9 line
 
 -- c does not stand in the list
 abbrev pub Lacks : ℕ → List ℕ → Type 0
-Lacks c xs = All (λ x. (x == c) ≡ false) xs
+Lacks c xs = AllByRecursion (λ x. (x == c) ≡ false) xs
 
 -- fields with a tab between each and the next
 abbrev pub tabbed : List (List ℕ) → List ℕ
@@ -39,8 +39,8 @@ tabbed (f ∷ g ∷ fs) = f ++ (9 ∷ tabbed (g ∷ fs))
 
 -- nothing is lost: lines with byte 10 after each are the text, and no line holds that byte
 abbrev pub LinesMake : List ℕ → List (List ℕ) → Type 0
-LinesMake text lines = (flat_map (λ l. l ++ (10 ∷ [])) lines ≡ text) × All (Lacks 10) lines
+LinesMake text lines = (flat_map (λ l. l ++ (10 ∷ [])) lines ≡ text) × AllByRecursion (Lacks 10) lines
 
 -- and fields with byte 9 between them are the line
 abbrev pub FieldsMake : List ℕ → List (List ℕ) → Type 0
-FieldsMake line fields = (tabbed fields ≡ line) × All (Lacks 9) fields
+FieldsMake line fields = (tabbed fields ≡ line) × AllByRecursion (Lacks 9) fields

@@ -2,7 +2,7 @@
 -- Across such a band a term from below never allows, and one from above always does.
 use Rattle.std.proofs.Common.{◌≡◌, ℕ, ◌<◌, cond, ◌⊎◌, List, ℤ, pos, ◌+ℤ◌, ◌≤ℤ◌, ◌<ℤ◌, arith}
 use lib.Signed.{lt_z}
-use Rattle.std.specs.List.{AllByRecursion as All}
+use Rattle.std.specs.List.{AllByRecursion}
 use Rattle.std.proofs.lemmas.Int.{ints}
 use Rattle.rules.specs.Laws.{Admits, Enough, Laws}
 use Rattle.timing.specs.Model.{BoundModel, BoundWithin}
@@ -22,7 +22,7 @@ pub moved_is : (c above below : ℤ) (t : Timetable) (e : ℕ)
 moved_is c above below t e = choice c (t e) (t e +ℤ above) (t e +ℤ below)
 
 -- the lower events come nearer to the upper ones by at most a tick
-pub keeps_all_moved : {A : Admits} {E : Enough} (laws : Laws A E) (n D : ℕ) (bs : List BoundModel) → All (BoundWithin n D) bs
+pub keeps_all_moved : {A : Admits} {E : Enough} (laws : Laws A E) (n D : ℕ) (bs : List BoundModel) → AllByRecursion (BoundWithin n D) bs
     → (c above below : ℤ) → below ≤ℤ (above +ℤ pos 1) → (t : Timetable) → Empty t n c D → KeepsAll E bs t → KeepsAll E bs (moved c above below t)
 keeps_all_moved {A} {E} laws n D bs within c above below nearer t empty =
     all_both (BoundWithin n D) (Keeps E t) (Keeps E (moved c above below t))

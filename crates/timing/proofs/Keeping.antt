@@ -1,7 +1,7 @@
 -- A timetable keeps what another keeps, if every term that allowed a bound still allows it.
 use Rattle.std.proofs.Common.{◌≡◌, ℕ, ◌<◌, Bool, true, false, cond, ◌⊎◌, List, [], ◌∷◌, ℤ, ◌+ℤ◌, ◌≤ℤ◌, ◌<ℤ◌, refl, inl, inr, arith}
 use lib.Signed.{lt_z, le_z}
-use Rattle.std.specs.List.{AllByRecursion as All}
+use Rattle.std.specs.List.{AllByRecursion}
 use Rattle.std.proofs.lemmas.Int.{ints, by_lt_z}
 use Rattle.std.proofs.ByRecursion.{All-weaker}
 use Rattle.rules.specs.Laws.{Admits, Enough, Laws}
@@ -11,12 +11,12 @@ use Rattle.timing.specs.Timetables.{Timetable, allows, Suffice, Keeps, KeepsAll}
 use Rattle.timing.specs.Rise.{join}
 
 -- what holds of everything holds of each element
-pub all_any : {X : Type 0} (P : X → Type 0) (xs : List X) → ((x : X) → P x) → All P xs
+pub all_any : {X : Type 0} (P : X → Type 0) (xs : List X) → ((x : X) → P x) → AllByRecursion P xs
 all_any P [] h = tt
 all_any P (x ∷ xs) h = (h x, all_any P xs h)
 
 -- two facts of each element give a third
-pub all_both : {X : Type 0} (P Q R : X → Type 0) → ((x : X) → P x → Q x → R x) → (xs : List X) → All P xs → All Q xs → All R xs
+pub all_both : {X : Type 0} (P Q R : X → Type 0) → ((x : X) → P x → Q x → R x) → (xs : List X) → AllByRecursion P xs → AllByRecursion Q xs → AllByRecursion R xs
 all_both P Q R f [] p q = tt
 all_both P Q R f (x ∷ xs) p q = (f x p.0 q.0, all_both P Q R f xs p.1 q.1)
 
@@ -54,7 +54,7 @@ allowed t to m = true_le (t to) (t m.from +ℤ m.delay)
 
 module _ {A : Admits} {E : Enough} (laws : Laws A E) where
   -- where each term that passes one test passes the other too, the second are enough if the first are
-  pub suffice_more : (b : BoundModel) (p q : TermModel → Bool) → All (λ m. p m ≡ true → q m ≡ true) b.terms → Suffice E b p → Suffice E b q
+  pub suffice_more : (b : BoundModel) (p q : TermModel → Bool) → AllByRecursion (λ m. p m ≡ true → q m ≡ true) b.terms → Suffice E b p → Suffice E b q
   suffice_more b p q = enough_more laws b.kind b.k p q b.terms
 
   -- of a bound of the sheet, only terms of the sheet count

@@ -1,6 +1,6 @@
 -- A sheet of n events among more: its bounds speak of the n alone, and so do its places.
 use Rattle.std.proofs.Common.{◌≡◌, ℕ, ◌<◌, ◌≤◌, cond, ltb, List, sym, ◌∙◌, inl, inr, arith}
-use Rattle.std.specs.List.{AllByRecursion as All}
+use Rattle.std.specs.List.{AllByRecursion}
 use Rattle.std.proofs.lemmas.Int.{ints}
 use Rattle.std.proofs.ByRecursion.{All-weaker}
 use Rattle.std.proofs.lemmas.Bool.{cases_lt, cond-true, cond-false, lt-ltb, le-ltb}
@@ -13,7 +13,7 @@ use Rattle.timing.proofs.Keeping.{all_both, keeps_like}
 pub bound_wider : (n m D : ℕ) → n ≤ m → (b : BoundModel) → BoundWithin n D b → BoundWithin m D b
 bound_wider n m D h b w = (omega arith, All-weaker (TermWithin n D) (TermWithin m D) (λ term v. (omega arith, v.1, v.2)) b.terms w.1)
 
-pub places_narrow : {A : Admits} {E : Enough} → Laws A E → (n m D source : ℕ) (bs : List BoundModel) → All (BoundWithin n D) bs → source < n → n ≤ m
+pub places_narrow : {A : Admits} {E : Enough} → Laws A E → (n m D source : ℕ) (bs : List BoundModel) → AllByRecursion (BoundWithin n D) bs → source < n → n ≤ m
     → (p : Timetable) → Places E D m source bs p → Places E D n source bs p
 places_narrow {A} {E} laws n m D source bs within inside h p places =
     record {

@@ -1,7 +1,7 @@
 -- The rise ends at the places, or shows that there is no timetable.
 use Rattle.std.proofs.Common.{◌≡◌, ℕ, zero, suc, ◌<◌, Bool, true, false, cond, ◌&&◌, ◌⊎◌, List, length, ℤ, pos, ◌+ℤ◌, neg_ℤ, ◌≤ℤ◌, ◌<ℤ◌, sym, ap, ◌∙◌, inl, inr, arith}
 use lib.Signed.{lt_z, le_z}
-use Rattle.std.specs.List.{ContainsAt as Has, AllByRecursion as All}
+use Rattle.std.specs.List.{ContainsAt as Has, AllByRecursion}
 use Rattle.std.proofs.lemmas.Int.{ints, by_lt_z}
 use Rattle.std.proofs.ByRecursion.{All-weaker, all-has}
 use Rattle.std.proofs.lemmas.Bool.{and_parts, and_from, both_ways}
@@ -22,14 +22,14 @@ refused_contradictory {A} {E} laws bs b has refused t keeps =
 
 -- all terms of an admitted bound are enough
 suffice_all : {A : Admits} {E : Enough} → Laws A E → (b : BoundModel) (p : TermModel → Bool) → A b.kind b.k (length b.terms) ≡ true
-    → All (λ m. p m ≡ true) b.terms → Suffice E b p
+    → AllByRecursion (λ m. p m ≡ true) b.terms → Suffice E b p
 suffice_all laws b p ok h = rw (mask_full p b.terms h) (laws.full b.kind b.k (length b.terms) ok)
 
 phase_is : (x y : Timetable) (to : ℕ) (m : TermModel)
     → (((x m.from +ℤ m.delay) <ℤ x to) × (phase_sum x y to m ≡ x to)) ⊎ ((x to ≤ℤ (x m.from +ℤ m.delay)) × (phase_sum x y to m ≡ y m.from +ℤ m.delay))
 phase_is x y to m = choice (x m.from +ℤ m.delay) (x to) (x to) (y m.from +ℤ m.delay)
 
-module _ {A : Admits} (k : Task) (laws : Laws A k.meaning) (within : All (BoundWithin k.events k.limit) k.bounds) where
+module _ {A : Admits} (k : Task) (laws : Laws A k.meaning) (within : AllByRecursion (BoundWithin k.events k.limit) k.bounds) where
   -- an event that may be the source is then at 0
   or_zero : {P : Type 0} (t : Timetable) (e : ℕ) → t k.source ≡ pos 0 → P ⊎ (k.source ≡ e) → P ⊎ (t e ≡ pos 0)
   or_zero t e starts (inl p) = inl p
@@ -105,7 +105,7 @@ module _ {A : Admits} (k : Task) (laws : Laws A k.meaning) (within : All (BoundW
       }
 
   -- a phase that is over: for each bound the maximum at TO comes from t, from a lifted y, or from x as before
-  pub risen : (x y : Timetable) → Rising k x → Phase k x y → All (Quiet k x y) k.bounds → Rising k y
+  pub risen : (x y : Timetable) → Rising k x → Phase k x y → AllByRecursion (Quiet k x y) k.bounds → Rising k y
   risen x y rising phase quiet =
       record {
         starts = phase.starts;

@@ -1,6 +1,6 @@
 -- A timetable that rises, phase by phase, until it is the places or breaks a bound.
 use Rattle.std.specs.Prelude.{◌≡◌, ℕ, zero, suc, ◌+◌, ◌<◌, cond, ◌&&◌, List, ℤ, pos, negsuc, ◌+ℤ◌, neg_ℤ, ◌≤ℤ◌, ◌<ℤ◌, int_le, int_lt}
-use Rattle.std.specs.List.{AllByRecursion as All}
+use Rattle.std.specs.List.{AllByRecursion}
 use Rattle.rules.specs.Laws.{Enough}
 use Rattle.timing.specs.Model.{TermModel, BoundModel}
 use Rattle.timing.specs.Timetables.{Timetable, allows, Suffice, KeepsAll}
@@ -37,7 +37,7 @@ pub record Lifted (k : Task) (x u : Timetable) : Type 0 where
   pub starts : u k.source ≡ pos 0
   pub low : (e : ℕ) → e < k.events → x e ≤ℤ u e
   pub high : (e : ℕ) → e < k.events → u e ≤ℤ far_mark k.limit
-  pub lifts : All (λ b. x b.to <ℤ u b.to → Suffice k.meaning b (λ m. allows x b.to m && allows u b.to m)) k.bounds
+  pub lifts : AllByRecursion (λ b. x b.to <ℤ u b.to → Suffice k.meaning b (λ m. allows x b.to m && allows u b.to m)) k.bounds
 
 -- y in the phase from x: no lift of x passes it
 pub record Phase (k : Task) (x y : Timetable) : Type 0 where

@@ -1,6 +1,6 @@
 -- Timetables, and what they keep.
 use Rattle.std.specs.Prelude.{◌≡◌, ℕ, Bool, true, List, length, ℤ, pos, ◌+ℤ◌, int_le, slice_index_or}
-use Rattle.std.specs.List.{AllByRecursion as All}
+use Rattle.std.specs.List.{AllByRecursion}
 use Rattle.rules.specs.Laws.{Enough}
 use Rattle.rules.specs.Masks.{mask_by}
 use Rattle.timing.specs.Model.{TermModel, BoundModel}
@@ -26,7 +26,7 @@ abbrev pub Keeps : Enough → Timetable → BoundModel → Type 0
 Keeps E t b = Suffice E b (allows t b.to)
 
 abbrev pub KeepsAll : Enough → List BoundModel → Timetable → Type 0
-KeepsAll E bs t = All (Keeps E t) bs
+KeepsAll E bs t = AllByRecursion (Keeps E t) bs
 
 -- no timetable keeps all bounds
 abbrev pub Contradictory : Enough → List BoundModel → Type 0

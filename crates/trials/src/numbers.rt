@@ -50,13 +50,13 @@ fn other_fields_are_no_numerals(rt: HostRuntime) {
 
 #[test]
 fn numbers_are_written(rt: HostRuntime) {
-    assert!(rt; Numeral::signed(0).as_bytes() == b"0");
-    assert!(rt; Numeral::signed(-1).as_bytes() == b"-1");
-    assert!(rt; Numeral::signed(1_000_000_000).as_bytes() == b"1000000000");
-    assert!(rt; Numeral::signed(i64::MAX).as_bytes() == b"9223372036854775807");
-    assert!(rt; Numeral::signed(i64::MIN).as_bytes() == b"-9223372036854775808");
-    assert!(rt; Numeral::natural(10).as_bytes() == b"10");
-    assert!(rt; Numeral::natural(u64::MAX).as_bytes() == b"18446744073709551615");
+    assert!(rt; Numeral::signed(0).as_bytes() == b"0".as_slice());
+    assert!(rt; Numeral::signed(-1).as_bytes() == b"-1".as_slice());
+    assert!(rt; Numeral::signed(1_000_000_000).as_bytes() == b"1000000000".as_slice());
+    assert!(rt; Numeral::signed(i64::MAX).as_bytes() == b"9223372036854775807".as_slice());
+    assert!(rt; Numeral::signed(i64::MIN).as_bytes() == b"-9223372036854775808".as_slice());
+    assert!(rt; Numeral::natural(10).as_bytes() == b"10".as_slice());
+    assert!(rt; Numeral::natural(u64::MAX).as_bytes() == b"18446744073709551615".as_slice());
 }
 
 // A name that is taken is written as it was read.

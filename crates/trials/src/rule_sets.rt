@@ -136,48 +136,41 @@ const LEAD_ENOUGH: [Sufficiency; 14] = [
     (2, 1, 8, 255, false),
 ];
 
-fn admits<R: RuleSet>(rt: &impl Abort, rules: &R, asked: &[Admission]) -> Result<(), Fail> {
+fn admits<R: RuleSet>(rt: &impl Abort, what: &str, rules: &R, asked: &[Admission]) {
     for (kind, k, count, answer) in asked {
-        assert_eq!(rt; rules.admits(*kind, *k, *count), *answer);
+        assert_eq!(rt; rules.admits(*kind, *k, *count), *answer, "{what}");
     }
-    Ok(())
 }
 
-fn enough<R: RuleSet>(rt: &impl Abort, rules: &R, asked: &[Sufficiency]) -> Result<(), Fail> {
+fn enough<R: RuleSet>(rt: &impl Abort, what: &str, rules: &R, asked: &[Sufficiency]) {
     for (kind, k, count, set, answer) in asked {
-        assert_eq!(rt; rules.enough(*kind, *k, *count, *set), *answer);
+        assert_eq!(rt; rules.enough(*kind, *k, *count, *set), *answer, "{what}");
     }
-    Ok(())
 }
 
-fn answers<R: RuleSet>(
-    rt: &impl Abort,
-    rules: &R,
-    added: &[Admission],
-    sets: &[Sufficiency],
-) -> Result<(), Fail> {
-    admits(rt, rules, &COMMON).note("kind 0")?;
-    enough(rt, rules, &ANY).note("sets of kind 0")?;
-    admits(rt, rules, added).note("the added kinds")?;
-    enough(rt, rules, sets).note("sets of the added kinds")
+fn answers<R: RuleSet>(rt: &impl Abort, rules: &R, added: &[Admission], sets: &[Sufficiency]) {
+    admits(rt, "kind 0", rules, &COMMON);
+    enough(rt, "sets of kind 0", rules, &ANY);
+    admits(rt, "the added kinds", rules, added);
+    enough(rt, "sets of the added kinds", rules, sets);
 }
 
 #[test]
-fn plain(rt: HostRuntime) -> Result<(), Fail> {
-    answers(&rt, &Plain {}, &PLAIN_ADMITS, &PLAIN_ENOUGH)
+fn plain(rt: HostRuntime) {
+    answers(&rt, &Plain {}, &PLAIN_ADMITS, &PLAIN_ENOUGH);
 }
 
 #[test]
-fn vote(rt: HostRuntime) -> Result<(), Fail> {
-    answers(&rt, &Vote {}, &VOTE_ADMITS, &VOTE_ENOUGH)
+fn vote(rt: HostRuntime) {
+    answers(&rt, &Vote {}, &VOTE_ADMITS, &VOTE_ENOUGH);
 }
 
 #[test]
-fn group(rt: HostRuntime) -> Result<(), Fail> {
-    answers(&rt, &Group {}, &SPLIT_ADMITS, &GROUP_ENOUGH)
+fn group(rt: HostRuntime) {
+    answers(&rt, &Group {}, &SPLIT_ADMITS, &GROUP_ENOUGH);
 }
 
 #[test]
-fn lead(rt: HostRuntime) -> Result<(), Fail> {
-    answers(&rt, &Lead {}, &SPLIT_ADMITS, &LEAD_ENOUGH)
+fn lead(rt: HostRuntime) {
+    answers(&rt, &Lead {}, &SPLIT_ADMITS, &LEAD_ENOUGH);
 }

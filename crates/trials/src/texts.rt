@@ -62,11 +62,11 @@ fn faults_tell_where(rt: HostRuntime) {
 fn lines_are_handed_out(rt: HostRuntime) -> Result<(), Fail> {
     let mut reader = Reader::new(b"one\n\nthree\n");
     let first = reader.next_line().ok_or("no line 1")?;
-    assert!(rt; first.number == 1 && first.bytes == b"one");
+    assert!(rt; first.number == 1 && first.bytes == b"one".as_slice());
     let second = reader.next_line().ok_or("no line 2")?;
     assert!(rt; second.number == 2 && second.bytes.is_empty());
     let third = reader.next_line().ok_or("no line 3")?;
-    assert!(rt; third.number == 3 && third.bytes == b"three");
+    assert!(rt; third.number == 3 && third.bytes == b"three".as_slice());
     assert!(rt; reader.next_line().is_none());
     assert!(rt; reader.next_line().is_none());
     Ok(())
@@ -80,11 +80,11 @@ fn fields_are_parts_of_a_line(rt: HostRuntime) -> Result<(), Fail> {
     };
     assert!(rt; line.count() == 4);
     let word = line.field(0).ok_or("no word")?;
-    assert!(rt; word.bytes == b"delay" && word.place == Place { line: 4, field: 1 });
+    assert!(rt; word.bytes == b"delay".as_slice() && word.place == Place { line: 4, field: 1 });
     let gap = line.field(2).ok_or("no third field")?;
     assert!(rt; gap.bytes.is_empty() && gap.place == Place { line: 4, field: 3 });
     let last = line.field(3).ok_or("no last field")?;
-    assert!(rt; last.bytes == b"AV" && last.place == Place { line: 4, field: 4 });
+    assert!(rt; last.bytes == b"AV".as_slice() && last.place == Place { line: 4, field: 4 });
     assert!(rt; line.field(4).is_none());
     assert!(rt; line.field(usize::MAX).is_none());
     assert!(rt;
@@ -101,9 +101,9 @@ fn fields_are_parts_of_a_line(rt: HostRuntime) -> Result<(), Fail> {
 #[test]
 fn faults_are_reported(rt: HostRuntime) -> Result<(), Fail> {
     let found = report(rt.alloc(), b"event\tAV\nevent\tC\rS\n")?;
-    assert!(rt; found.as_slice() == b"fault\t3\t2\t0\n");
+    assert!(rt; found.as_slice() == b"fault\t3\t2\t0\n".as_slice());
     let found = report(rt.alloc(), b"event\tAV")?;
-    assert!(rt; found.as_slice() == b"fault\t2\t1\t0\n");
+    assert!(rt; found.as_slice() == b"fault\t2\t1\t0\n".as_slice());
     let found = report(rt.alloc(), b"event\tAV\n")?;
     assert!(rt; found.is_empty());
     Ok(())

@@ -6,7 +6,7 @@ use Rattle.records_fault.specs.declared.fault.LoadFault.{LoadFault}
 use Rattle.records.specs.declared.entry.Need.{Need}
 use Rattle.records.specs.Loads.{State, loaded}
 use Rattle.report.specs.Report.{Findings, ReportsLoaded}
-use Rattle.report.proofs.LoadedNeeds.{Loads, loads, needs_known}
+use Rattle.report.proofs.LoadedNeeds.{loads, needs_known}
 use Rattle.report.proofs.report.Goals as goal
 
 pub put_findings-requires : goal.put_findings-requires

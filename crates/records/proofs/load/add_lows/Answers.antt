@@ -1,5 +1,5 @@
 use Rattle.std.proofs.Common.{ℕ, ◌<◌, List, length, get_or, take, pos, None, sym, ap, ◌∙◌, subst, arith, rules}
-use Rattle.std.specs.List.{AllByRecursion as All}
+use Rattle.std.specs.List.{AllByRecursion}
 use Rattle.std.proofs.lemmas.Result.{err_from_is_err_and}
 use Rattle.std.proofs.lemmas.List.{take_all}
 use Rattle.timing.specs.Limits.{delay_limit}
@@ -19,7 +19,7 @@ add_low-requires g c =
     let lt : c.loop-input.input-index < length c.args.inputs.now = omega arith in
     let kept = bounds_keep_names (g.R.RuleSet.admitted c.args.sheet.now.rules) c.args.line (sheet_of c.args.sheet.now) (sheet_of c.loop-input.sheet)
     (low_bounds c.args.to (take c.loop-input.input-index c.args.inputs.now)) c.loop-input.invariant.0 in
-    subst (λ (names : List (List ℕ)). All (BoundWithin (length names) delay_limit)
+    subst (λ (names : List (List ℕ)). AllByRecursion (BoundWithin (length names) delay_limit)
     (low_bound (get_or c.args.inputs.now c.loop-input.input-index none).from c.args.to (get_or c.args.inputs.now c.loop-input.input-index none).low)) (sym kept)
     (low_of c.args.to c.args.inputs.now c.loop-input.input-index none lt (BoundWithin (length (sheet_of c.args.sheet.now).names) delay_limit) c.requires)
 

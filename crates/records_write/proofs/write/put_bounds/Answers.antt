@@ -1,5 +1,5 @@
 use Rattle.std.proofs.Common.{◌≡◌, ◌<◌, List, [], ◌++◌, length, take, ap, ◌∙◌, subst, arith}
-use Rattle.std.specs.List.{flat_map, AllByRecursion as All}
+use Rattle.std.specs.List.{flat_map, AllByRecursion}
 use Rattle.std.proofs.ByRecursion.{All-more}
 use Rattle.std.proofs.lemmas.List.{take_all}
 use Rattle.timing.specs.Model.{BoundModel}
@@ -36,5 +36,5 @@ returns g c =
     record {
       text = c.loop-number.invariant.0 ∙ ap (λ (l : List BoundModel). shown c.args.page.now ++ flat_map (λ b. line_of (limit_fields names b)) l) all;
       len = omega (arith, few_bounds c.args.sheet.now, c.bound_count-number-end.ensures);
-      bytes = subst (All ByteSized) all c.loop-number.invariant.2;
+      bytes = subst (AllByRecursion ByteSized) all c.loop-number.invariant.2;
     }

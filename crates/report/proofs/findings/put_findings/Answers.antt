@@ -1,5 +1,5 @@
-use Rattle.std.proofs.Common.{◌≡◌, ℕ, true, false, List, length, sym, ap, ◌∙◌, subst, inr, rules}
-use Rattle.std.specs.List.{AllByRecursion as All}
+use Rattle.std.proofs.Common.{ℕ, List, length, sym, ap, ◌∙◌, subst, inr}
+use Rattle.std.specs.List.{AllByRecursion}
 use Rattle.rules.specs.Sets.{vote_enough}
 use Rattle.sheet.specs.Model.{sheet_of}
 use Rattle.sheet.specs.Plain.{PlainSheet}
@@ -32,7 +32,7 @@ put_needs-requires c =
     let whole = back ∙ ap sheet_of c.settle-settled.ensures.moved in
     record {
       some = subst (λ (s : PlainSheet). Consistent vote_enough s.bounds) (sym back) some;
-      known = subst (λ (s : PlainSheet). All (Known (length s.names)) c.args.needs.now) (sym whole) c.requires.known;
+      known = subst (λ (s : PlainSheet). AllByRecursion (Known (length s.names)) c.args.needs.now) (sym whole) c.requires.known;
     }
 
 pub returns : goal.returns

@@ -1,4 +1,4 @@
-use Rattle.std.proofs.Common.{◌≡◌, ℕ, List, [], ◌∷◌, ◌++◌, map, get_or, vec_items, sym, ap, ◌∙◌, append_assoc, arith, Bor, rules}
+use Rattle.std.proofs.Common.{ℕ, List, [], ◌∷◌, ◌++◌, map, vec_items, ap, ◌∙◌, append_assoc, arith, Bor}
 use Rattle.std.proofs.lemmas.List.{take_all}
 use Rattle.text.specs.Split.{tabbed}
 use Rattle.report.proofs.Fields.{put_first, put_next}
