@@ -1,5 +1,5 @@
 -- One settling more.
-use Rattle.std.proofs.Common.{◌≡◌, ℕ, ◌+◌, ◌<◌, ◌≤◌, sym, refl, ap, ◌∙◌, subst, arith}
+use Rattle.std.proofs.Common.{◌≡◌, ℕ, ◌+◌, sym, ap, ◌∙◌, subst, arith}
 use Rattle.std.proofs.lemmas.Bool.{cond-true, lt-ltb}
 use Rattle.rules.specs.declared.RuleSet.{Ghosts}
 use Rattle.rules.specs.Laws.{Enough}
@@ -40,7 +40,7 @@ turn E s source n count (Knotted knot) right h =
 -- a turn of the loop, on the sheet d that was settled as t
 pub turned : {R : Type 0} {G : Ghosts R} (E : Enough) (d : Drawn R G) (t : Settled R G) (source n count one : ℕ) → t.drawn ≡ d → t.source ≡ source → HoldsRight E t
     → one ≡ one_if_read (read_of t source) → Counts E (sheet_of d) source n count → Counts E (sheet_of d) source (n + 1) (count + one)
-turned {R} E d t source n count one moved from right is h =
+turned {R} {G} E d t source n count one moved from right is h =
     let right' = subst (λ (x : Drawn R G). Right E (sheet_of x) source t.found) moved (subst (λ (k : ℕ). Right E (standing t) k t.found) from right) in
     let all = is ∙ ap (λ (x : Drawn R G). one_if_read (read_held (sheet_of x) t.found source)) moved in
     subst (λ (k : ℕ). Counts E (sheet_of d) source (n + 1) (count + k)) (sym all) (turn E (sheet_of d) source n count t.found right' h)

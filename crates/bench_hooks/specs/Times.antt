@@ -1,5 +1,5 @@
 -- How many of some settlings of one sheet find a timetable: all or none.
-use Rattle.std.specs.Prelude.{◌≡◌, ℕ, ◌<◌, ◌≤◌, ◌⊎◌, Ok, Err, Result}
+use Rattle.std.specs.Prelude.{◌≡◌, ℕ, ◌<◌, ◌≤◌, Ok, Err, Result}
 use Rattle.rules.specs.Laws.{Enough}
 use Rattle.timing.specs.Timetables.{Contradictory}
 use Rattle.sheet.specs.Plain.{PlainSheet}

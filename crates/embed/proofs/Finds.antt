@@ -1,5 +1,5 @@
 -- What settling finds, as it is handed out.
-use Rattle.std.proofs.Common.{◌≡◌, ℕ, ◌<◌, ◌≤◌, Bool, true, false, cond, List, length, get_or, Ok, Err, Result, sym, refl, ap, ◌∙◌, subst, arith}
+use Rattle.std.proofs.Common.{◌≡◌, ℕ, false, List, length, get_or, Ok, Err, sym, refl, ap, ◌∙◌, subst, arith}
 use Rattle.std.proofs.lemmas.Bool.{cond-true, lt-ltb}
 use Rattle.rules.specs.declared.RuleSet.{Ghosts}
 use Rattle.rules.specs.Laws.{Enough}
@@ -8,7 +8,7 @@ use Rattle.sheet.specs.declared.drawn.Drawn.{Drawn}
 use Rattle.sheet.specs.Model.{sheet_of}
 use Rattle.sheet.specs.Plain.{PlainSheet}
 use Rattle.sheet.specs.declared.fault.Refusal.{Refusal}
-use Rattle.sheet.specs.declared.fault.Refusal.TheVariants.{NoSuchEvent, NoSuchBound, Contradictory}
+use Rattle.sheet.specs.declared.fault.Refusal.TheVariants.{Contradictory}
 use Rattle.settle.specs.declared.reading.Reading.{Reading}
 use Rattle.settle.specs.declared.settled.Settled.{Settled}
 use Rattle.settle.specs.declared.settled.Found.{Found}

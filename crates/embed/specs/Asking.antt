@@ -1,5 +1,5 @@
 -- What one question to the sheet of a text answers.
-use Rattle.std.specs.Prelude.{◌≡◌, ℕ, Bool, true, false, ◌⊎◌, List, ℤ, Some, None, Ok, Err, Option, Result}
+use Rattle.std.specs.Prelude.{◌≡◌, ℕ, Bool, ◌⊎◌, List, ℤ, Some, None, Ok, Err, Option, Result}
 use Rattle.rules.specs.Laws.{Enough}
 use Rattle.sheet.specs.Plain.{PlainSheet, number_in}
 use Rattle.sheet.specs.declared.fault.Refusal.{Refusal}

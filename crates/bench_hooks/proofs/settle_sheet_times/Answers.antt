@@ -13,6 +13,6 @@ loop-turn-preserved g c =
     let right = subst (λ d. HoldsRight (g.R.RuleSet.suffices d.rules) t) inv.0 told.right in (
       c.reopen-drawn.ensures ∙ moved,
       omega arith,
-      turned (g.R.RuleSet.suffices c.args.sheet.rules) c.args.sheet t c.args.source c.loop-turn.-turn c.loop-turn.count c.one_if_read-count.result
+      turned (g.R.RuleSet.suffices c.args.sheet.rules) c.args.sheet t c.args.source c.loop-turn._turn c.loop-turn.count c.one_if_read-count.result
           moved told.from right (c.one_if_read-count.ensures.value ∙ ap one_if_read c.read.ensures.held) inv.2,
     )

@@ -19,4 +19,4 @@ returns g c =
     (subst (λ (k : ℕ). Right (g.R.RuleSet.suffices d.rules) (sheet_of t.drawn) k t.found) told.from told.right) in
     let held = c.is_met.ensures.held ∙ ap (verdict_of t c.args.to) (to_z-of_z w64 most fits)
     ∙ ap (λ x. verdict_on most (read_held (sheet_of x) t.found c.args.to)) told.moved in
-    (judges_since (g.met.R.RuleSet.lawful d.rules) (sheet_of d) (sheet_is d) c.args.from t.found c.args.to most c.is_met.result held right).defined
+    judges_since (g.met.R.RuleSet.lawful d.rules) (sheet_of d) (sheet_is d) c.args.from t.found c.args.to most c.is_met.result held right

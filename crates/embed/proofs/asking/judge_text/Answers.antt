@@ -1,8 +1,7 @@
-use Rattle.std.proofs.Common.{ℤ, sym, subst, inr, w64, SFits, rules}
+use Rattle.std.proofs.Common.{ℤ, subst, inr, w64, SFits, rules}
 use Rattle.std.proofs.lemmas.Int.{to_z-of_z}
 use Rattle.sheet.specs.Model.{sheet_of}
 use Rattle.settle.specs.Meaning.{Judges}
-use Rattle.embed.specs.Asking.{JudgesLoaded}
 use Rattle.embed.specs.Opened.{sheet_of_text}
 use Rattle.embed.proofs.Questions.{judged}
 use Rattle.embed.proofs.asking.judge_text.Goals as goal

@@ -1,4 +1,4 @@
-use Rattle.std.proofs.Common.{arith, Fits-lit}
+use Rattle.std.proofs.Common.{arith}
 use Rattle.sheet.specs.Model.{sheet_of}
 use Rattle.sheet.proofs.Standing.{few_events}
 use Rattle.embed.proofs.Questions.{number_below}
