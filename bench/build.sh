@@ -6,16 +6,16 @@ cd "$(dirname "$0")/.."
 program=$1
 shift
 out=target/bench
-kit=$(dirname "$(dirname "$(rt doc | head -n 1)")")
+kit=$(dirname "$(rt doc)")
 mkdir -p "$out"
 
 archives=()
 for crate in "$@"; do
-    rt staticlib "$crate" >"$out/$crate.log" 2>&1 || { tail -n 20 "$out/$crate.log" >&2; exit 1; }
-    archives+=(-l "static=$crate")
+    (cd "crates/$crate" && rt lib) >"$out/$crate.log" 2>&1 || { tail -n 20 "$out/$crate.log" >&2; exit 1; }
+    archives+=(-L "native=crates/$crate/out" -l "static=$crate")
 done
 if [ $# -gt 0 ]; then
-    archives+=(-L native=target/staticlib -L "native=$kit/lib" -l static=rattle_c)
+    archives+=(-L "native=$kit/c" -l static=libc_c)
 fi
 
 rustc --edition 2024 -C opt-level=3 --crate-type rlib --crate-name vaultginger_bench \

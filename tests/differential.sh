@@ -3,5 +3,5 @@
 # tests/differential.sh [SEED [COUNT]]. The last line is 'N passed, M failed', and the status tells the same.
 set -eu
 cd "$(dirname "$0")/.."
-bench/build.sh differential embed
+bench/build.sh differential embed_c
 exec target/bench/differential "$@"

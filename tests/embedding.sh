@@ -33,20 +33,20 @@ for tool in rt gcc rustc; do
 done
 [ "$failed" -eq 0 ] || finish
 
-kit=$(dirname "$(dirname "$(rt doc)")")
+kit=$(dirname "$(rt doc)")
 work=$(mktemp -d)
 trap 'rm -rf "$work"' EXIT
 
-rt staticlib embed >"$work/log" 2>&1
+(cd crates/embed_c && rt lib) >"$work/log" 2>&1
 status=$?
 [ "$status" -eq 0 ] || tail -n 20 "$work/log"
-report "rt staticlib embed" "$status"
+report "the static library" "$status"
 [ "$status" -eq 0 ] || finish
 
-gcc -std=c11 -Wall -Wextra -Werror -O2 -o "$work/in_c" examples/c/main.c target/staticlib/libembed.a "$kit/lib/librattle_c.a"
+gcc -std=c11 -Wall -Wextra -Werror -O2 -o "$work/in_c" examples/c/main.c crates/embed_c/out/libembed_c.a "$kit/c/liblibc_c.a"
 report "gcc" $?
 rustc --edition 2024 -O -D warnings -o "$work/in_rust" examples/rust/main.rs \
-    -L native=target/staticlib -L native="$kit/lib" -l static=embed -l static=rattle_c
+    -L native=crates/embed_c/out -L native="$kit/c" -l static=embed_c -l static=libc_c
 report "rustc" $?
 [ "$failed" -eq 0 ] || finish
 

@@ -3,13 +3,14 @@
 # greatest length and of one byte more.
 set -u
 cd "$(dirname "$0")/.."
-[ -x target/bin/check ] || rt check check >/dev/null || exit 1
+check=$PWD/crates/check_sheet/out/check_sheet
+(cd crates/check_sheet && rt run </dev/null) >/dev/null 2>&1 || exit 1
 passed=0
 failed=0
 
 # prints LABEL EXPECTED: what `check` prints for standard input is what the file EXPECTED holds
 prints() {
-  if target/bin/check | cmp -s - "$2"; then
+  if "$check" | cmp -s - "$2"; then
     passed=$((passed + 1))
   else
     failed=$((failed + 1))

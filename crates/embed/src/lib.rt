@@ -1,17 +1,12 @@
-//! What an editor calls, with the calling convention of C.
-//!
-//! Each call does a whole job: it loads a text, answers, and frees what it took. A refusal is answered as minus its
-//! number, want of memory as -1000. What a call does not fill stays as it was.
+//! What an editor asks of a text, each question a whole job: the text is loaded, the answer given, and what was taken
+//! is freed. What a call does not fill stays as it was. The crate embed_c makes the exports for C of it.
 #![tactic(auto)]
 
-ghost use Rattle.embed.specs.Answers.{Answers};
 ghost use Rattle.embed.specs.Exports.{SettlesUnder, JudgesUnder, NumbersUnder};
-ghost use Rattle.embed.specs.Reporting.{TextReports};
 ghost use Rattle.embed.specs.Settling.{handed};
 
 use crate::asking::{judge_text, number_in_text};
-use crate::failure::{Failure, answer};
-use crate::reporting::report_text;
+use crate::failure::Failure;
 use crate::rule_choice::RuleChoice;
 use crate::settling::settle_text;
 use crate::slots::{EventReading, FaultPlace};
@@ -26,7 +21,10 @@ pub mod rule_choice;
 pub mod settling;
 pub mod slots;
 
-fn settle_under(
+/// Loads a text under the rule set with this number and settles it from one of its events: fills a slot for each event,
+/// and answers how many there are. Where the sheet is contradictory it fills a byte for each bound instead, 1 for those
+/// in the knot.
+pub fn settle_under(
     heap: Global,
     rules: u8,
     text: &[u8],
@@ -45,7 +43,8 @@ fn settle_under(
     }
 }
 
-fn judge_under(
+/// Loads a text and judges a need on it: 1 where it is met, 0 where it is broken.
+pub fn judge_under(
     heap: Global,
     rules: u8,
     text: &[u8],
@@ -63,7 +62,8 @@ fn judge_under(
     }
 }
 
-fn number_under(heap: Global, rules: u8, text: &[u8], name: &[u8]) -> Result<u32, Failure>
+/// Loads a text; answers the number of the event with this name.
+pub fn number_under(heap: Global, rules: u8, text: &[u8], name: &[u8]) -> Result<u32, Failure>
     ensures { NumbersUnder rules text.now name.now result }
 {
     match RuleChoice::numbered(rules) {
@@ -72,55 +72,4 @@ fn number_under(heap: Global, rules: u8, text: &[u8], name: &[u8]) -> Result<u32
         Some(RuleChoice::Group) => number_in_text(heap, Group {}, text, name),
         None => Err(Failure::NoSuchRules),
     }
-}
-
-/// What `check` prints for a text; answers how many bytes that is.
-#[unsafe(no_mangle)]
-pub extern "C" fn vaultginger_report(heap: Global, text: &[u8], out: &mut [u8]) -> i64
-    ensures { Answers (TextReports text.now out.old out.new) result }
-{
-    match report_text(heap, text, out) {
-        Ok(count) => count as i64,
-        Err(failure) => failure.answer(),
-    }
-}
-
-/// Loads a text and settles it from one of its events: fills a slot for each event, and answers how many there are.
-/// Where the sheet is contradictory it fills a byte for each bound instead, 1 for those in the knot.
-#[unsafe(no_mangle)]
-pub extern "C" fn vaultginger_settle(
-    heap: Global,
-    rules: u8,
-    text: &[u8],
-    source: usize,
-    events: &mut [EventReading],
-    knot: &mut [u8],
-    fault: &mut [FaultPlace],
-) -> i64
-    ensures { Answers (SettlesUnder rules text.now source (handed events.old knot.old fault.old) (handed events.new knot.new fault.new)) result }
-{
-    answer(settle_under(heap, rules, text, source, events, knot, fault))
-}
-
-/// Loads a text and judges a need on it: 1 where it is met, 0 where it is broken.
-#[unsafe(no_mangle)]
-pub extern "C" fn vaultginger_need(
-    heap: Global,
-    rules: u8,
-    text: &[u8],
-    from: usize,
-    to: usize,
-    most: i64,
-) -> i64
-    ensures { Answers (JudgesUnder rules text.now from to most) result }
-{
-    answer(judge_under(heap, rules, text, from, to, most))
-}
-
-/// Loads a text; answers the number of the event with this name.
-#[unsafe(no_mangle)]
-pub extern "C" fn vaultginger_event_number(heap: Global, rules: u8, text: &[u8], name: &[u8]) -> i64
-    ensures { Answers (NumbersUnder rules text.now name.now) result }
-{
-    answer(number_under(heap, rules, text, name))
 }
