@@ -25,7 +25,7 @@ tell() { # tell LABEL STATUS
     passed=$((passed + 1))
   else
     failed=$((failed + 1))
-    echo "misuse: $1"
+    echo "$1"
     head -n 20 "$made/log"
   fi
 }
@@ -132,5 +132,5 @@ grep -q 'fn lawless::LeadRuleSet::enough: proved' "$made/log"
 tell 'a rule set breaks a law: its code does not answer its meaning' "$?"
 proved 'the same rule set with its laws' lawful
 
-echo "misuse: $passed passed, $failed failed"
+echo "$passed passed, $failed failed"
 [ "$failed" -eq 0 ] && [ "$passed" -gt 0 ]

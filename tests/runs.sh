@@ -14,7 +14,7 @@ prints() {
     passed=$((passed + 1))
   else
     failed=$((failed + 1))
-    echo "runs: $1: not what is expected"
+    echo "$1: not what is expected"
   fi
 }
 
@@ -25,5 +25,5 @@ done
 newlines() { head -c "$1" /dev/zero | tr '\0' '\n'; }
 prints '65,536 bytes' <(printf 'fault\t4\t1\t0\n') < <(newlines 65536)
 prints '65,537 bytes' <(printf 'fault\t1\t0\t0\n') < <(newlines 65537)
-echo "runs: $passed passed, $failed failed"
+echo "$passed passed, $failed failed"
 [ "$failed" -eq 0 ] && [ "$passed" -gt 0 ]

@@ -1,3 +1,4 @@
+-- Lead keeps the laws: what its added kind owes.
 use Rattle.std.proofs.Common.{arith}
 use Rattle.std.proofs.lemmas.Bool.Decides.{nat_tests}
 use Rattle.rules.specs.Added.{Adds}
