@@ -126,11 +126,47 @@ set_of() {
 set_of lawful
 set_of lawless
 sed -i 's/|| nat_le k (count_ones (other_terms 1 set))/|| (k == count_ones (other_terms 1 set))/' "$made/crates/lawless/specs/Lead.antt"
-sed -i 's/count_ones() >= k as u32/count_ones() == k as u32/' "$made/crates/lawless/src/lib.rt"
-refused 'a rule set breaks a law' lawless 'impl lawless::LeadRuleSet: not proved'
-grep -q 'fn lawless::LeadRuleSet::enough: proved' "$made/log"
+sed -i 's/count_ones() >= u32::from(others)/count_ones() == u32::from(others)/' "$made/crates/lawless/src/lib.rt"
+refused 'a rule set breaks a law' lawless 'impl lawless::LeadAddedKinds: not proved'
+grep -q 'fn lawless::LeadAddedKinds::passes: proved' "$made/log"
 tell 'a rule set breaks a law: its code does not answer its meaning' "$?"
 proved 'the same rule set with its laws' lawful
+
+# 5. a rule set need not be given by the kinds that it adds: the trait itself is open
+crate_of_rules() {
+  mkdir -p "$made/crates/$1/src" "$made/crates/$1/specs"
+  echo "$1: rules" >>"$made/crates.txt"
+  cat >"$made/crates/$1/src/lib.rt"
+}
+crate_of_rules direct <<'CODE'
+#![tactic(auto)]
+
+ghost use Rattle.rules.specs.Sets.{plain_admits, plain_enough};
+ghost use Rattle.rules.specs.SetsLemmas.{plain_adds};
+ghost use Rattle.rules.specs.AddedLemmas.{laws_with};
+
+use rules::{RuleSet, is_set};
+
+#[derive(Clone, Copy)]
+pub struct Own {}
+
+impl RuleSet for Own {
+    ghost admitted = { λ _. plain_admits };
+
+    ghost suffices = { λ _. plain_enough };
+
+    ghost lawful = { λ rules. laws_with plain_adds };
+
+    fn admits(&self, kind: u8, k: u8, count: u8) -> bool {
+        kind == 0 && k == 0 && 1 <= count && count <= 8
+    }
+
+    fn enough(&self, kind: u8, k: u8, count: u8, set: u8) -> bool {
+        self.admits(kind, k, count) && is_set(count, set) && set > 0
+    }
+}
+CODE
+proved 'a rule set of its own' direct
 
 echo "$passed passed, $failed failed"
 [ "$failed" -eq 0 ] && [ "$passed" -gt 0 ]

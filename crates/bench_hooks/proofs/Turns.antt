@@ -1,19 +1,32 @@
 -- One settling more.
-use Rattle.std.proofs.Common.{◌≡◌, ℕ, ◌+◌, sym, ap, ◌∙◌, subst, arith}
+use Rattle.std.proofs.Common.{◌≡◌, ℕ, ◌≤◌, ◌+◌, Bool, true, false, sym, ap, ◌∙◌, subst, arith}
 use Rattle.std.proofs.lemmas.Bool.{cond-true, lt-ltb}
+use Rattle.std.specs.Prelude.{Result, is_ok}
+use Rattle.std.specs.Int.{from_bool}
 use Rattle.rules.specs.declared.RuleSet.{Ghosts}
-use Rattle.rules.specs.Laws.{Enough}
+use Rattle.rules.specs.Laws.{Enough, Laws}
 use Rattle.timing.specs.Timetables.{times}
 use Rattle.sheet.specs.declared.drawn.Drawn.{Drawn}
 use Rattle.sheet.specs.Model.{sheet_of}
 use Rattle.sheet.specs.Plain.{PlainSheet}
+use Rattle.sheet.specs.declared.fault.Refusal.{Refusal}
+use Rattle.settle.specs.declared.reading.Reading.{Reading}
 use Rattle.settle.specs.declared.settled.Settled.{Settled}
 use Rattle.settle.specs.declared.settled.Found.{Found}
 use Rattle.settle.specs.declared.settled.Found.TheVariants.{NoSource, Placed, Knotted}
 use Rattle.settle.specs.Held.{events, read_held}
 use Rattle.settle.specs.Meaning.{Right}
-use Rattle.settle.specs.Model.{standing, read_of, HoldsRight}
-use Rattle.bench_hooks.specs.Times.{one_if_read, Counts}
+use Rattle.settle.specs.Model.{read_of}
+use Rattle.settle.proofs.Meant.{right_from}
+use Rattle.bench_hooks.specs.Times.{Counts}
+
+-- a settling counts where something is read of the source
+abbrev pub one_if_read : Result Reading Refusal → ℕ
+one_if_read answer = from_bool (is_ok answer)
+
+pub at_most_one : (read : Bool) → from_bool read ≤ 1
+at_most_one true = omega arith
+at_most_one false = omega arith
 
 turn : (E : Enough) (s : PlainSheet) (source n count : ℕ) (found : Found) → Right E s source found → Counts E s source n count
     → Counts E s source (n + 1) (count + one_if_read (read_held s found source))
@@ -38,9 +51,10 @@ turn E s source n count (Knotted knot) right h =
     }
 
 -- a turn of the loop, on the sheet d that was settled as t
-pub turned : {R : Type 0} {G : Ghosts R} (E : Enough) (d : Drawn R G) (t : Settled R G) (source n count one : ℕ) → t.drawn ≡ d → t.source ≡ source → HoldsRight E t
-    → one ≡ one_if_read (read_of t source) → Counts E (sheet_of d) source n count → Counts E (sheet_of d) source (n + 1) (count + one)
-turned {R} {G} E d t source n count one moved from right is h =
-    let right' = subst (λ (x : Drawn R G). Right E (sheet_of x) source t.found) moved (subst (λ (k : ℕ). Right E (standing t) k t.found) from right) in
+pub turned : {R : Type 0} {G : Ghosts R} (laws : (r : R) → Laws (G.admitted r) (G.suffices r)) (d : Drawn R G) (t : Settled R G) (source n count one : ℕ) → t.drawn ≡ d → t.source ≡ source
+    → one ≡ one_if_read (read_of t source) → Counts (G.suffices d.rules) (sheet_of d) source n count → Counts (G.suffices d.rules) (sheet_of d) source (n + 1) (count + one)
+turned {R} {G} laws d t source n count one moved from is h =
+    let E = G.suffices d.rules in
     let all = is ∙ ap (λ (x : Drawn R G). one_if_read (read_held (sheet_of x) t.found source)) moved in
-    subst (λ (k : ℕ). Counts E (sheet_of d) source (n + 1) (count + k)) (sym all) (turn E (sheet_of d) source n count t.found right' h)
+    subst (λ (k : ℕ). Counts E (sheet_of d) source (n + 1) (count + k)) (sym all)
+    (turn E (sheet_of d) source n count t.found (right_from laws t d source moved from) h)

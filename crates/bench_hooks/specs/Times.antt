@@ -3,18 +3,12 @@ use Rattle.std.specs.Prelude.{◌≡◌, ℕ, ◌<◌, ◌≤◌, Ok, Err, Resul
 use Rattle.rules.specs.Laws.{Enough}
 use Rattle.timing.specs.Timetables.{Contradictory}
 use Rattle.sheet.specs.Plain.{PlainSheet}
-use Rattle.sheet.specs.declared.fault.Refusal.{Refusal}
-use Rattle.settle.specs.declared.reading.Reading.{Reading}
 use Rattle.settle.specs.Held.{events}
 use Rattle.settle.specs.Meaning.{Consistent}
 use Rattle.records_fault.specs.declared.fault.LoadFault.{LoadFault}
 use Rattle.embed.specs.declared.failure.Failure.{Failure}
 use Rattle.embed.specs.declared.failure.Failure.TheVariants.{Text}
 use Rattle.embed.specs.Asking.{OrNoMemory}
-
-abbrev pub one_if_read : Result Reading Refusal → ℕ
-one_if_read (Ok x) = 1
-one_if_read (Err refusal) = 0
 
 -- all, from an event of a sheet that some timetable keeps; else none
 pub record Counts (E : Enough) (s : PlainSheet) (source times count : ℕ) : Type 0 where

@@ -1,32 +1,19 @@
 //! An export for timing alone: a text is loaded once and settled many times.
 #![tactic(auto)]
 
-ghost use Rattle.std.specs.Prelude.{◌≡◌, ◌≤◌};
 ghost use Rattle.sheet.specs.Model.{sheet_of};
 ghost use Rattle.embed.specs.Answers.{Answers, Under};
 ghost use Rattle.embed.specs.Opened.{sheet_of_text};
 ghost use Rattle.embed.specs.Rules.{rule_numbered, admits_by, enough_by};
-ghost use Rattle.bench_hooks.specs.Times.{one_if_read, Counts, TextCounts};
+ghost use Rattle.bench_hooks.specs.Times.{Counts, TextCounts};
 
 use embed::failure::{Failure, answer};
 use embed::opened::open_text;
-use embed::rule_choice::RuleChoice;
-use rules::{Group, Plain, RuleSet, Vote};
-use settle::reading::Reading;
+use embed::under;
+use rules::RuleSet;
 use settle::settled::settle;
 use sheet::drawn::Drawn;
-use sheet::fault::Refusal;
 use std::alloc::Global;
-
-fn one_if_read(answer: Result<Reading, Refusal>) -> u32
-    ensures value { result ≡ one_if_read answer }
-    ensures small { result ≤ 1 }
-{
-    match answer {
-        Ok(_) => 1,
-        Err(_) => 0,
-    }
-}
 
 /// How many of so many settlings found some timetable.
 fn settle_sheet_times<R: RuleSet + Drop>(sheet: Drawn<R>, source: usize, times: u32) -> u32
@@ -36,7 +23,7 @@ fn settle_sheet_times<R: RuleSet + Drop>(sheet: Drawn<R>, source: usize, times: 
     let mut count = 0;
     for _turn in 0..times {
         let settled = settle(drawn, source);
-        count += one_if_read(settled.read(source));
+        count += u32::from(settled.read(source).is_ok());
         drawn = settled.reopen();
     }
     count
@@ -64,12 +51,10 @@ fn settle_times_under(
 ) -> Result<u32, Failure>
     ensures { Under (rule_numbered rules) (λ by. TextCounts (enough_by by) (sheet_of_text (admits_by by) text.now) source times) (Unit {0}) result }
 {
-    match RuleChoice::numbered(rules) {
-        Some(RuleChoice::Plain) => settle_text_times(heap, Plain {}, text, source, times),
-        Some(RuleChoice::Vote) => settle_text_times(heap, Vote {}, text, source, times),
-        Some(RuleChoice::Group) => settle_text_times(heap, Group {}, text, source, times),
-        None => Err(Failure::NoSuchRules),
-    }
+    under!(
+        rules,
+        |set| settle_text_times(heap, set, text, source, times)
+    )
 }
 
 /// Loads a text once and settles it so many times from `source`. Answers how many settlings found some timetable: all,

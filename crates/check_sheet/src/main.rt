@@ -4,6 +4,7 @@
 use std::io::{Read, Write};
 
 /// One byte more than a text may have shows that it is too long.
+// a figure, not one more than text::checks::MAX_BYTES: the program uses report alone
 const LIMIT: u64 = 65_537;
 
 fn main(rt: HostRuntime) -> anyhow::Result<()> {

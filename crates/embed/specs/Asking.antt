@@ -8,22 +8,21 @@ use Rattle.settle.specs.Meaning.{Judges}
 use Rattle.records_fault.specs.declared.fault.LoadFault.{LoadFault}
 use Rattle.embed.specs.declared.failure.Failure.{Failure}
 use Rattle.embed.specs.declared.failure.Failure.TheVariants.{Text, Sheet, NoMemory}
-use Rattle.embed.specs.Settling.{flag_of}
 
 -- so, unless memory is wanting
-abbrev pub OrNoMemory : Result ℕ Failure → Type 0 → Type 0
+abbrev pub OrNoMemory : {X : Type 0} → Result X Failure → Type 0 → Type 0
 OrNoMemory r P = (r ≡ Err NoMemory) ⊎ P
 
--- a verdict: 1 where the need is met, 0 where it is broken
-abbrev pub verdict_said : Result Bool Refusal → Result ℕ Failure
-verdict_said (Ok met) = Ok (flag_of met)
+-- a verdict: whether the need is met
+abbrev pub verdict_said : Result Bool Refusal → Result Bool Failure
+verdict_said (Ok met) = Ok met
 verdict_said (Err refusal) = Err (Sheet refusal)
 
-abbrev pub JudgesLoaded : Enough → Result PlainSheet LoadFault → ℕ → ℕ → ℤ → Result ℕ Failure → Type 0
+abbrev pub JudgesLoaded : Enough → Result PlainSheet LoadFault → ℕ → ℕ → ℤ → Result Bool Failure → Type 0
 JudgesLoaded E (Ok s) from to most r = (verdict : Result Bool Refusal) × Judges E s from to most verdict × (r ≡ verdict_said verdict)
 JudgesLoaded E (Err fault) from to most r = r ≡ Err (Text fault)
 
-abbrev pub TextJudges : Enough → Result PlainSheet LoadFault → ℕ → ℕ → ℤ → Result ℕ Failure → Type 0
+abbrev pub TextJudges : Enough → Result PlainSheet LoadFault → ℕ → ℕ → ℤ → Result Bool Failure → Type 0
 TextJudges E said from to most r = OrNoMemory r (JudgesLoaded E said from to most r)
 
 -- the number of an event

@@ -1,5 +1,5 @@
 -- What the calls are to answer, by the number of the rule set.
-use Rattle.std.specs.Prelude.{◌≡◌, ℕ, List, ℤ, Result}
+use Rattle.std.specs.Prelude.{◌≡◌, ℕ, Bool, List, ℤ, Result}
 use Rattle.embed.specs.declared.failure.Failure.{Failure}
 use Rattle.embed.specs.Answers.{Under}
 use Rattle.embed.specs.Asking.{TextJudges, TextNumbers}
@@ -12,7 +12,7 @@ SettlesUnder rules text source before after =
     Under (rule_numbered rules) (λ by. TextSettles (enough_by by) (sheet_of_text (admits_by by) text) source before after) (after ≡ before)
 
 -- the other calls fill nothing
-abbrev pub JudgesUnder : ℕ → List ℕ → ℕ → ℕ → ℤ → Result ℕ Failure → Type 0
+abbrev pub JudgesUnder : ℕ → List ℕ → ℕ → ℕ → ℤ → Result Bool Failure → Type 0
 JudgesUnder rules text from to most = Under (rule_numbered rules) (λ by. TextJudges (enough_by by) (sheet_of_text (admits_by by) text) from to most) (Unit {0})
 
 abbrev pub NumbersUnder : ℕ → List ℕ → List ℕ → Result ℕ Failure → Type 0

@@ -43,10 +43,14 @@ flag_said (Err refusal) = 0
 abbrev pub filled : {X : Type 0} → (ℕ → X) → ℕ → List X → List X
 filled f n slots = map f (range_with_len 0 n) ++ drop n slots
 
+-- a fault as it is handed out: its number, and its place
+abbrev pub place_of : LoadFault → FaultPlace
+place_of fault = record { number = load_number fault; line = (load_place fault).line; field = (load_place fault).field }
+
 -- the first slot, if there is one, holds a fault and its place
 abbrev pub noted : LoadFault → List FaultPlace → List FaultPlace
 noted fault [] = []
-noted fault (slot ∷ slots) = record { number = load_number fault; line = (load_place fault).line; field = (load_place fault).field } ∷ slots
+noted fault (slot ∷ slots) = place_of fault ∷ slots
 
 abbrev pub fault_noted : Failure → List FaultPlace → List FaultPlace
 fault_noted (Text fault) slots = noted fault slots

@@ -1,13 +1,14 @@
 ghost use Rattle.std.specs.Prelude.{◌≡◌, pos, neg_ℤ};
 ghost use Rattle.embed.specs.Answers.{failure_number, answer_number};
-ghost use Rattle.embed.specs.declared.failure.Failure.TheVariants.{NoMemory, Text};
+ghost use Rattle.embed.specs.declared.failure.Failure.TheVariants.{NoSuchRules, Text, Sheet, NoMemory};
 
+use crate::rule_choice::UnknownRules;
 use records_fault::fault::LoadFault;
 use sheet::fault::Refusal;
 use std::alloc::AllocError;
 
 /// Why a call does not do what it was asked for.
-#[derive(Clone, Copy)]
+#[derive(Clone, Copy, PartialEq, Eq)]
 pub enum Failure {
     /// no rule set has this number
     NoSuchRules,
@@ -22,11 +23,20 @@ pub enum Failure {
     NoMemory,
 }
 
+// by hand, as all four: the derive's conversion has no contract, and clauses name the failure that `?` makes
 impl From<AllocError> for Failure {
     ghost from_gives = { λ _ r. r ≡ NoMemory };
 
     fn from(_error: AllocError) -> Failure {
         Failure::NoMemory
+    }
+}
+
+impl From<UnknownRules> for Failure {
+    ghost from_gives = { λ _ r. r ≡ NoSuchRules };
+
+    fn from(_unknown: UnknownRules) -> Self {
+        Self::NoSuchRules
     }
 }
 
@@ -38,15 +48,24 @@ impl From<LoadFault> for Failure {
     }
 }
 
+impl From<Refusal> for Failure {
+    ghost from_gives = { λ refusal r. r ≡ Sheet refusal };
+
+    fn from(refusal: Refusal) -> Self {
+        Self::Sheet(refusal)
+    }
+}
+
 impl Failure {
     /// The number by which users know it.
+    // a number, as C is answered
     pub fn number(self) -> u16
         ensures { result ≡ failure_number self }
     {
         match self {
             Failure::NoSuchRules => 13,
-            Failure::Text(fault) => fault.number() as u16,
-            Failure::Sheet(refusal) => refusal.number() as u16,
+            Failure::Text(fault) => u16::from(fault.number()),
+            Failure::Sheet(refusal) => u16::from(refusal.number()),
             Failure::TooFewSlots => 16,
             Failure::TooFewBytes => 19,
             Failure::NoMemory => 1000,
@@ -57,16 +76,17 @@ impl Failure {
     pub fn answer(self) -> i64
         ensures { result ≡ neg_ℤ (pos (failure_number self)) }
     {
-        -(self.number() as i64)
+        -i64::from(self.number())
     }
 }
 
 /// What a call answers: the value, or minus the number of the failure.
+// here and not in embed_c: every static library with calls of its own answers so, and none can use another
 pub fn answer(res: Result<u32, Failure>) -> i64
     ensures { result ≡ answer_number res }
 {
     match res {
-        Ok(value) => value as i64,
+        Ok(value) => i64::from(value),
         Err(failure) => failure.answer(),
     }
 }

@@ -1,15 +1,15 @@
 //! All events of a sheet, settled from one of them; or its knot.
-ghost use Rattle.std.specs.Prelude.{◌≡◌, ◌≤◌, length};
+ghost use Rattle.std.specs.Prelude.{◌≡◌, length, EachIndex};
+ghost use Rattle.std.specs.List.{HoldsAt};
 ghost use Rattle.sheet.specs.Model.{sheet_of};
-ghost use Rattle.settle.specs.Model.{standing, read_of, knot_of};
+ghost use Rattle.settle.specs.Model.{read_of, knot_of};
 ghost use Rattle.embed.specs.Opened.{sheet_of_text};
-ghost use Rattle.embed.specs.Settling.{slot_said, flag_said, filled, fault_noted, handed, SheetSettles, TextSettles};
+ghost use Rattle.embed.specs.Settling.{slot_said, flag_said, fault_noted, handed, SheetSettles, TextSettles};
 
 use crate::failure::Failure;
 use crate::opened::open_text;
 use crate::slots::{EventReading, FaultPlace};
 use rules::RuleSet;
-use settle::reading::Reading;
 use settle::settled::{Settled, settle};
 use sheet::drawn::Drawn;
 use sheet::fault::Refusal;
@@ -19,62 +19,26 @@ use std::alloc::Global;
 fn slot<R: RuleSet>(settled: &Settled<R>, event: usize) -> EventReading
     ensures { result ≡ slot_said (read_of settled.now event) }
 {
-    match settled.read(event) {
-        Ok(
-            Reading {
-                separation: Some(v),
-                place,
-            },
-        ) => EventReading {
-            place,
-            separation: v,
-            open: 0,
-        },
-        Ok(
-            Reading {
-                separation: None,
-                place,
-            },
-        ) => EventReading {
-            place,
-            separation: 0,
-            open: 1,
-        },
-        Err(_) => EventReading {
-            place: 0,
-            separation: 0,
-            open: 0,
-        },
-    }
+    settled
+        .read(event)
+        .map(EventReading::from)
+        .unwrap_or_default()
 }
 
-/// Whether a bound is in the knot, as it is handed out.
+/// Whether a bound is in the knot, as it is handed out: a byte, for C.
 fn flag<R: RuleSet>(settled: &Settled<R>, bound: usize) -> u8
     ensures { result ≡ flag_said (knot_of settled.now bound) }
 {
-    match settled.knot(bound) {
-        Ok(true) => 1,
-        _ => 0,
-    }
+    u8::from(settled.knot(bound).unwrap_or(false))
 }
 
-/// Fills the first slots, one for each event.
-fn fill_events<R: RuleSet>(slots: &mut [EventReading], settled: &Settled<R>)
-    requires { length (standing settled.now).names ≤ length slots.old }
-    ensures { slots.new ≡ filled (λ e. slot_said (read_of settled.now e)) (length (standing settled.now).names) slots.old }
+/// Fills each slot with what is made for its number.
+fn fill<T: Drop, F: Fn(usize) -> T>(slots: &mut [T], make: F)
+    requires { F.IsAlwaysCallable make }
+    ensures { EachIndex slots.new (λ k. HoldsAt (F.post make k) slots.new k) }
 {
-    for event in 0..settled.sheet().event_count() {
-        slots[event] = slot(settled, event);
-    }
-}
-
-/// Fills the first bytes, one for each bound.
-fn fill_knot<R: RuleSet>(flags: &mut [u8], settled: &Settled<R>)
-    requires { length (standing settled.now).bounds ≤ length flags.old }
-    ensures { flags.new ≡ filled (λ i. flag_said (knot_of settled.now i)) (length (standing settled.now).bounds) flags.old }
-{
-    for bound in 0..settled.sheet().bound_count() {
-        flags[bound] = flag(settled, bound);
+    for (number, slot) in slots.iter_mut().enumerate() {
+        *slot = make(number);
     }
 }
 
@@ -82,16 +46,10 @@ fn fill_knot<R: RuleSet>(flags: &mut [u8], settled: &Settled<R>)
 fn note_fault(slots: &mut [FaultPlace], failure: Failure)
     ensures { slots.new ≡ fault_noted failure slots.old }
 {
-    let Failure::Text(fault) = failure else {
-        return;
-    };
-    if slots.len() > 0 {
-        let place = fault.place();
-        slots[0] = FaultPlace {
-            number: fault.number() as usize,
-            line: place.line,
-            field: place.field,
-        };
+    if let Failure::Text(fault) = failure
+        && let Some(slot) = slots.first_mut()
+    {
+        *slot = FaultPlace::from(fault);
     }
 }
 
@@ -105,22 +63,25 @@ fn settle_sheet<R: RuleSet + Drop>(
     ensures { SheetSettles (R.RuleSet.suffices sheet.rules) (sheet_of sheet) source events.old knot.old events.new knot.new result }
 {
     let count = sheet.event_count();
+    let bounds = sheet.bound_count();
     if source >= count {
         return Err(Failure::Sheet(Refusal::NoSuchSource));
     }
-    if events.len() < count || knot.len() < sheet.bound_count() {
+    if events.len() < count || knot.len() < bounds {
         return Err(Failure::TooFewSlots);
     }
     let settled = settle(sheet, source);
     if let Err(refusal) = settled.read(source) {
-        fill_knot(knot, &settled);
+        fill(&mut knot[..bounds], |bound| flag(&settled, bound));
         return Err(Failure::Sheet(refusal));
     }
-    fill_events(events, &settled);
+    fill(&mut events[..count], |event| slot(&settled, event));
+    // a u32, as an event's number
     Ok(count as u32)
 }
 
 /// Loads a text and settles its sheet; answers how many events it has.
+// three lent slices, not a struct of them: a contract would name what is left in each by its place in nested pairs
 pub fn settle_text<R: RuleSet + Drop>(
     heap: Global,
     rules: R,

@@ -3,15 +3,16 @@
 //! Each call does a whole job. A refusal is answered as minus its number, want of memory as -1000.
 #![tactic(auto)]
 
-ghost use Rattle.embed.specs.Answers.{Answers};
+ghost use Rattle.embed.specs.Answers.{Answers, AsNumber};
 ghost use Rattle.embed.specs.Exports.{SettlesUnder, JudgesUnder, NumbersUnder};
 ghost use Rattle.embed.specs.Reporting.{TextReports};
 ghost use Rattle.embed.specs.Settling.{handed};
 
-use embed::failure::answer;
+use embed::failure::{Failure, answer};
 use embed::reporting::report_text;
 use embed::slots::{EventReading, FaultPlace};
 use embed::{judge_under, number_under, settle_under};
+use records::entry::Need;
 use std::alloc::Global;
 
 /// What `check` prints for a text; answers how many bytes that is.
@@ -19,10 +20,8 @@ use std::alloc::Global;
 pub extern "C" fn vaultginger_report(heap: Global, text: &[u8], out: &mut [u8]) -> i64
     ensures { Answers (TextReports text.now out.old out.new) result }
 {
-    match report_text(heap, text, out) {
-        Ok(count) => count as i64,
-        Err(failure) => failure.answer(),
-    }
+    // a cast: a length fits an i64, but there is no From
+    report_text(heap, text, out).map_or_else(Failure::answer, |count| count as i64)
 }
 
 /// Loads a text and settles it from one of its events: fills a slot for each event, and answers how many there are.
@@ -52,9 +51,9 @@ pub extern "C" fn vaultginger_need(
     to: usize,
     most: i64,
 ) -> i64
-    ensures { Answers (JudgesUnder rules text.now from to most) result }
+    ensures { Answers (AsNumber (JudgesUnder rules text.now from to most)) result }
 {
-    answer(judge_under(heap, rules, text, from, to, most))
+    answer(judge_under(heap, rules, text, Need { from, to, most }).map(u32::from))
 }
 
 /// Loads a text; answers the number of the event with this name.

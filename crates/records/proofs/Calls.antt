@@ -1,11 +1,14 @@
 -- What the sheet's calls answer to a line, against what the line is to add.
-use Rattle.std.proofs.Common.{◌≡◌, ℕ, ◌+◌, ◌<◌, Bool, true, false, cond, not, ltb, List, [], ◌∷◌, ◌++◌, map, length, get_or, take, drop, set, pos, neg_ℤ, is_some, None, Ok, Err, Result, sym, refl, ap, ◌∙◌, subst, ap₂, arith}
+use Rattle.std.proofs.Common.{◌≡◌, ℕ, ◌+◌, ◌<◌, Bool, true, false, cond, not, ltb, List, [], ◌∷◌, ◌++◌, length, get_or, take, drop, pos, neg_ℤ, is_some, None, Ok, Err, Result, IfOk, sym, refl, ap, ◌∙◌, subst, ap₂, arith}
 use lib.Signed.{le_z}
 use Rattle.std.specs.List.{AllByRecursion}
-use Rattle.std.proofs.lemmas.List.{append_assoc, append-nil, take_more, take-append-drop, drop_more, take_more_set, map_push, map_more}
+use Rattle.std.proofs.lemmas.List.{append_assoc, append-nil, take_more, take-append-drop, drop_more}
 use Rattle.std.proofs.lemmas.Int.{ints}
 use Rattle.std.proofs.lemmas.Bool.{lt-ltb}
+use Rattle.std.proofs.lemmas.Result.{IfOk-at_ok, IfOk-weaker}
 use Rattle.rules.specs.Laws.{Admits}
+use Rattle.rules.specs.declared.RuleSet.{Ghosts}
+use Rattle.sheet.specs.Model.{sheet_of}
 use Rattle.text.specs.Names.{is_name}
 use Rattle.text.specs.Checks.{and_then}
 use Rattle.timing.specs.Limits.{delay_limit}
@@ -17,9 +20,12 @@ use Rattle.records.specs.declared.entry.Input.{Input}
 use Rattle.records_fault.specs.declared.fault.LoadFault.{LoadFault}
 use Rattle.records_fault.specs.declared.fault.LoadFault.TheVariants.{TooManyEvents as noEvent, TooManyBounds as noRoom, NotAdmitted as noRule}
 use Rattle.records.specs.Fields.{map_ok}
-use Rattle.records.specs.Entries.{low_bound, low_bounds}
-use Rattle.records.specs.Loads.{admitted, event_added, bound_added, bounds_added}
+use Rattle.records.specs.Entries.{some_bounds, low_bound, low_bounds}
+use Rattle.records.specs.Loads.{State, admitted, event_added, bound_added, bounds_added, added}
 use Rattle.records.specs.Refusals.{at_line}
+use Rattle.records.specs.declared.load.Loading.{Loading}
+use Rattle.records.specs.Loadings.{names_in, state_in, adding, AddsSaid}
+use Rattle.records.proofs.After.{after, after_map, either}
 
 -- of terms within the sheet there is no fault
 no_fault : (n : ℕ) (ts : List TermModel) → AllByRecursion (TermWithin n delay_limit) ts → terms_fault n ts ≡ None
@@ -77,13 +83,6 @@ event_is_added n s name bytes r after is new same gives =
     ∙ ap (λ (p : Outcome CallFault). map_ok (λ _. p.after) (as_line n p.answer)) (ap (event_call s) same ∙ event_call_lem s name is new)
     ∙ event_ways n s name (ltb (length s.names) 64)
 
--- one term more for one input more
-pub mapped_more : {X Y Z : Type 0} (f : X → Z) (g : Y → Z) (xs : List X) (ys : List Y) (i : ℕ) (x : X) (y : Y) → i < length xs → i < length ys → y ≡ get_or ys i y → f x ≡ g y
-    → map f (take i xs) ≡ map g (take i ys) → map f (take (i + 1) (set xs i x)) ≡ map g (take (i + 1) ys)
-mapped_more {X} {Y} {Z} f g xs ys i x y in' lt read e h =
-    ap (map f) (take_more_set xs i x in') ∙ map_push f (take i xs) x
-    ∙ ap₂ (λ (l : List Z) (z : Z). l ++ (z ∷ [])) h (e ∙ ap g read) ∙ sym (map_more g ys i y lt)
-
 -- what holds of two lists put together holds of each
 pub all-parts : {X : Type 0} (P : X → Type 0) (xs ys : List X) → AllByRecursion P (xs ++ ys) → AllByRecursion P xs × AllByRecursion P ys
 all-parts P [] ys h = (tt, h)
@@ -109,22 +108,76 @@ module _ (admits : Admits) (n : ℕ) where
       go (Ok t) = refl
       go (Err e) = refl
 
-  kept_names : (s t : PlainSheet) (b : BoundModel) → bound_added admits n s b ≡ Ok t → t.names ≡ s.names
-  kept_names s t b = go (admitted admits b) (ltb (length s.bounds) 256)
-    where
-      go : (x y : Bool) → cond x (cond y (Ok (record { names = s.names; bounds = s.bounds ++ (b ∷ []) })) (Err (noRoom n))) (Err (noRule n)) ≡ Ok t → t.names ≡ s.names
-      go true true e = let same : record { names = s.names; bounds = s.bounds ++ (b ∷ []) } ≡ t = cc in ap (λ (u : PlainSheet). u.names) (sym same)
-      go true false e = absurd (grind arith)
-      go false y e = absurd (grind arith)
+  -- bounds leave the events alone
+  bound_keeps_names : (s : PlainSheet) (b : BoundModel) → IfOk (bound_added admits n s b) (λ t. t.names ≡ s.names)
+  bound_keeps_names s b = either _ (admitted admits b) _ _ (either _ (ltb (length s.bounds) 256) _ _ refl tt) tt
 
-  pub bounds_keep_names : (s t : PlainSheet) (bs : List BoundModel) → bounds_added admits n s bs ≡ Ok t → t.names ≡ s.names
-  bounds_keep_names s t [] e = let same : s ≡ t = cc in ap (λ (u : PlainSheet). u.names) (sym same)
-  bounds_keep_names s t (b ∷ bs) e = go (bound_added admits n s b) refl (λ u k. bounds_keep_names u t bs k) e
+  pub bounds_keep_names : (s : PlainSheet) (bs : List BoundModel) → IfOk (bounds_added admits n s bs) (λ t. t.names ≡ s.names)
+  bounds_keep_names s [] = refl
+  bounds_keep_names s (b ∷ bs) =
+      after _ (bound_added admits n s b) _ (bound_keeps_names s b)
+      (λ u k. IfOk-weaker (bounds_added admits n u bs) (λ t. t.names ≡ u.names) (λ t. t.names ≡ s.names) (λ t e. e ∙ k) (bounds_keep_names u bs))
+
+-- a state with another sheet
+abbrev pub With : State → PlainSheet → State
+With s t = record { sheet = t; needs = s.needs }
+
+-- lines that add bounds to a state
+module _ (admits : Admits) (slots n : ℕ) where
+  added_append : (s : State) (xs ys : List BoundModel)
+      → added admits slots n s (some_bounds (xs ++ ys)) ≡ and_then (added admits slots n s (some_bounds xs)) (λ t. added admits slots n t (some_bounds ys))
+  added_append s xs ys = ap (map_ok (With s)) (bounds_append admits n s.sheet xs ys) ∙ go (bounds_added admits n s.sheet xs)
     where
-      go : (r : Result PlainSheet LoadFault) → bound_added admits n s b ≡ r → ((u : PlainSheet) → bounds_added admits n u bs ≡ Ok t → t.names ≡ u.names)
-          → and_then r (λ u. bounds_added admits n u bs) ≡ Ok t → t.names ≡ s.names
-      go (Ok u) is rest k = rest u k ∙ kept_names s u b is
-      go (Err f) is rest k = absurd (grind arith)
+      go : (r : Result PlainSheet LoadFault)
+          → map_ok (With s) (and_then r (λ t. bounds_added admits n t ys)) ≡ and_then (map_ok (With s) r) (λ t. added admits slots n t (some_bounds ys))
+      go (Ok t) = refl
+      go (Err e) = refl
+
+  -- a bound alone, by the sheet's answer to it
+  pub alone_is_added : (s : State) (b : BoundModel) (r : Result ℕ CallFault) (after : PlainSheet)
+      → BoundWithin (length s.sheet.names) delay_limit b → Gives (bound_call admits s.sheet b) r after
+      → map_ok (λ _. With s after) (at_line n r) ≡ added admits slots n s (some_bounds (b ∷ []))
+  alone_is_added s b r after w gives =
+      go (at_line n r) ∙ ap (map_ok (With s)) (bound_is_added admits n s.sheet b r after w gives ∙ sym (bound_alone admits n s.sheet b))
+    where
+      go : (q : Result (Unit {0}) LoadFault) → map_ok (λ _. With s after) q ≡ map_ok (With s) (map_ok (λ _. after) q)
+      go (Ok x) = refl
+      go (Err e) = refl
+
+-- parts of a line that are added one after another
+module _ {R : Type 0} {G : Ghosts R} (before : Loading R G) where
+  abbrev adds : List BoundModel → Result State LoadFault
+  adds bs = adding before (some_bounds bs)
+
+  append_adds : (xs ys : List BoundModel) (r : Result State LoadFault) → r ≡ adds xs
+      → adds (xs ++ ys) ≡ and_then r (λ u. added (G.admitted before.sheet.now.rules) (length before.slots.now) before.line u (some_bounds ys))
+  append_adds xs ys r e =
+      added_append (G.admitted before.sheet.now.rules) (length before.slots.now) before.line (state_in before) xs ys
+      ∙ ap (λ (q : Result State LoadFault). and_then q (λ u. added (G.admitted before.sheet.now.rules) (length before.slots.now) before.line u (some_bounds ys))) (sym e)
+
+  pub names_kept : (here : Loading R G) (bs : List BoundModel) → AddsSaid (some_bounds bs) (Ok tt) before here → names_in here ≡ names_in before
+  names_kept here bs first =
+      IfOk-at_ok (λ (s : State). s.sheet.names ≡ names_in before) (sym first.adds)
+      (after_map (λ (s : State). s.sheet.names ≡ names_in before) (With (state_in before)) (bounds_added (G.admitted before.sheet.now.rules) before.line (sheet_of before.sheet.now) bs)
+      (bounds_keep_names (G.admitted before.sheet.now.rules) before.line (sheet_of before.sheet.now) bs) (λ t e. e))
+
+  pub adds_on : (here there : Loading R G) (xs ys : List BoundModel) (r : Result (Unit {0}) LoadFault) → AddsSaid (some_bounds xs) (Ok tt) before here
+      → AddsSaid (some_bounds ys) r here there → AddsSaid (some_bounds (xs ++ ys)) r before there
+  adds_on here there xs ys r first next = record {
+    adds = next.adds ∙ ap₂ (λ (a : Admits) (k : ℕ). added a k here.line (state_in here) (some_bounds ys)) (ap G.admitted first.same.rules) first.same.room
+        ∙ ap (λ (n : ℕ). added (G.admitted before.sheet.now.rules) (length before.slots.now) n (state_in here) (some_bounds ys)) first.line
+        ∙ sym (append_adds xs ys (Ok (state_in here)) first.adds);
+    same = record {
+      sheet = next.same.sheet ∙ first.same.sheet;
+      slots = next.same.slots ∙ first.same.slots;
+      rules = next.same.rules ∙ first.same.rules;
+      room = next.same.room ∙ first.same.room;
+    };
+    line = next.line ∙ first.line;
+  }
+
+  pub adds_stop : (there : Loading R G) (xs ys : List BoundModel) (f : LoadFault) → AddsSaid (some_bounds xs) (Err f) before there → AddsSaid (some_bounds (xs ++ ys)) (Err f) before there
+  adds_stop there xs ys f first = record { adds = sym (append_adds xs ys (Err f) first.adds); same = first.same; line = first.line }
 
 -- the lows of the inputs, one after another
 lows_append : (to : ℕ) (xs ys : List Input) → low_bounds to (xs ++ ys) ≡ low_bounds to xs ++ low_bounds to ys
@@ -134,15 +187,15 @@ lows_append to (x ∷ xs) ys =
     ∙ sym (append_assoc (low_bound x.from to x.low) (low_bounds to xs) (low_bounds to ys))
 
 module _ (to : ℕ) (is : List Input) (i : ℕ) (d : Input) (lt : i < length is) where
-  abbrev this : List BoundModel
+  abbrev pub this : List BoundModel
   this = low_bound (get_or is i d).from to (get_or is i d).low
 
-  lows_next : low_bounds to (take (i + 1) is) ≡ low_bounds to (take i is) ++ this
+  pub lows_next : low_bounds to (take (i + 1) is) ≡ low_bounds to (take i is) ++ this
   lows_next =
       ap (low_bounds to) (take_more is i d lt) ∙ lows_append to (take i is) (get_or is i d ∷ [])
       ∙ ap (λ (l : List BoundModel). low_bounds to (take i is) ++ l) (append-nil this)
 
-  lows_split : low_bounds to is ≡ low_bounds to (take i is) ++ (this ++ low_bounds to (drop (i + 1) is))
+  pub lows_split : low_bounds to is ≡ low_bounds to (take i is) ++ (this ++ low_bounds to (drop (i + 1) is))
   lows_split =
       ap (low_bounds to) (sym (take-append-drop i is) ∙ ap (λ (l : List Input). take i is ++ l) (drop_more is i d lt))
       ∙ lows_append to (take i is) (get_or is i d ∷ drop (i + 1) is)
@@ -151,17 +204,17 @@ module _ (to : ℕ) (is : List Input) (i : ℕ) (d : Input) (lt : i < length is)
   low_of P h =
       (all-parts P this (low_bounds to (drop (i + 1) is)) (all-parts P (low_bounds to (take i is)) (this ++ low_bounds to (drop (i + 1) is)) (subst (AllByRecursion P) lows_split h)).1).0
 
-  module _ (a b : Admits) (same : b ≡ a) (n : ℕ) (s t : PlainSheet) (so_far : bounds_added a n s (low_bounds to (take i is)) ≡ Ok t) where
-    pub lows-more : (u : PlainSheet) → Ok u ≡ bounds_added b n t this → bounds_added a n s (low_bounds to (take (i + 1) is)) ≡ Ok u
-    lows-more u e =
-        ap (bounds_added a n s) lows_next ∙ bounds_append a n s (low_bounds to (take i is)) this
-        ∙ ap (λ (r : Result PlainSheet LoadFault). and_then r (λ v. bounds_added a n v this)) so_far
-        ∙ ap (λ (q : Admits). bounds_added q n t this) (sym same) ∙ sym e
+  -- the next low of a loop over the inputs
+  module _ {R : Type 0} {G : Ghosts R} (before here there : Loading R G)
+      (so_far : AddsSaid (some_bounds (low_bounds to (take i is))) (Ok tt) before here) where
+    pub lows_more : AddsSaid (some_bounds this) (Ok tt) here there → AddsSaid (some_bounds (low_bounds to (take (i + 1) is))) (Ok tt) before there
+    lows_more next =
+        subst (λ (bs : List BoundModel). AddsSaid (some_bounds bs) (Ok tt) before there) (sym lows_next)
+        (adds_on before here there (low_bounds to (take i is)) this (Ok tt) so_far next)
 
-    pub lows-stop : (f : LoadFault) → Err f ≡ bounds_added b n t this → Err f ≡ bounds_added a n s (low_bounds to is)
-    lows-stop f e =
-        let rest = low_bounds to (drop (i + 1) is) in
-        sym (ap (bounds_added a n s) lows_split ∙ bounds_append a n s (low_bounds to (take i is)) (this ++ rest)
-        ∙ ap (λ (r : Result PlainSheet LoadFault). and_then r (λ v. bounds_added a n v (this ++ rest))) so_far
-        ∙ bounds_append a n t this rest
-        ∙ ap (λ (r : Result PlainSheet LoadFault). and_then r (λ v. bounds_added a n v rest)) (ap (λ (q : Admits). bounds_added q n t this) (sym same) ∙ sym e))
+    pub lows_stop : (f : LoadFault) → AddsSaid (some_bounds this) (Err f) here there → AddsSaid (some_bounds (low_bounds to is)) (Err f) before there
+    lows_stop f next =
+        subst (λ (bs : List BoundModel). AddsSaid (some_bounds bs) (Err f) before there)
+        (append_assoc (low_bounds to (take i is)) this (low_bounds to (drop (i + 1) is)) ∙ sym lows_split)
+        (adds_stop before there (low_bounds to (take i is) ++ this) (low_bounds to (drop (i + 1) is)) f
+        (adds_on before here there (low_bounds to (take i is)) this (Err f) so_far next))

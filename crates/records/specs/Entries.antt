@@ -1,8 +1,9 @@
 -- What a line says, where the events have certain names.
 use Rattle.std.specs.Prelude.{ℕ, zero, suc, ◌+◌, ◌-◌, ◌*◌, ◌/◌, ◌%◌, Bool, true, false, cond, ◌&&◌, List, [], ◌∷◌, ◌++◌, map, length, ℤ, neg_ℤ, Some, None, Ok, Err, codes, Option, Result, ◌==◌, int_le, nat_le, slice_index_or}
-use Rattle.std.specs.Option.{ok_or}
+use Rattle.std.specs.Option.{ok_or, option_map}
+use Rattle.std.specs.List.{list_all}
 use Rattle.std.specs.Str.{bytes_eq}
-use Rattle.text.specs.Checks.{and_then, each, line_bytes}
+use Rattle.text.specs.Checks.{and_then, line_bytes}
 use Rattle.text.specs.Split.{fields_of}
 use Rattle.timing.specs.declared.bound.Term.{Term}
 use Rattle.timing.specs.Bounds.{term_of}
@@ -24,15 +25,18 @@ pub data Said : Type 0 where
 abbrev pub plain_bound : ℕ → ℕ → ℤ → BoundModel
 plain_bound to from delay = record { to = to; kind = 0; k = 0; terms = record { from = from; delay = delay } ∷ [] }
 
+-- TO ≤ FROM + delay, where it is given
+abbrev pub given_bound : ℕ → ℕ → Option ℤ → List BoundModel
+given_bound to from None = []
+given_bound to from (Some delay) = plain_bound to from delay ∷ []
+
 -- FROM ≤ TO - LOW
 abbrev pub low_bound : ℕ → ℕ → Option ℤ → List BoundModel
-low_bound from to None = []
-low_bound from to (Some low) = plain_bound from to (neg_ℤ low) ∷ []
+low_bound from to low = given_bound from to (option_map neg_ℤ low)
 
 -- TO ≤ FROM + HIGH
 abbrev pub high_bound : ℕ → ℕ → Option ℤ → List BoundModel
-high_bound from to None = []
-high_bound from to (Some high) = plain_bound to from high ∷ []
+high_bound from to high = given_bound to from high
 
 abbrev pub linear_bounds : ℕ → ℕ → Option ℤ → Option ℤ → List BoundModel
 linear_bounds from to low high = low_bound from to low ++ high_bound from to high
@@ -113,7 +117,7 @@ delay_says names n fs =
     and_then (ok_or (groups 2 3 (length fs)) (Record (FieldCount n))) (λ count.
     and_then (event_at names (placed n 1) (slice_index_or fs 1 [])) (λ to.
     and_then (groups_from (input_at names n fs) 3 count 2 []) (λ inputs.
-    cond (each input_agrees inputs) (Ok (some_bounds (delay_bounds to inputs))) (Err (Record (LowAboveHigh n))))))
+    cond (list_all input_agrees inputs) (Ok (some_bounds (delay_bounds to inputs))) (Err (Record (LowAboveHigh n))))))
 
 -- limit KIND K TO, then one to eight of FROM HIGH
 abbrev pub limit_says : List (List ℕ) → ℕ → List (List ℕ) → Result Said LoadFault

@@ -4,3 +4,6 @@ pub mod Loads
 pub mod Meanings
 pub mod Refusals
 pub mod Reads
+pub mod Readers
+pub mod Words
+pub mod Loadings

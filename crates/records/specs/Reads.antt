@@ -1,5 +1,5 @@
 -- What an entry of the program says, and what a sheet must have for it.
-use Rattle.std.specs.Prelude.{◌≡◌, ℕ, ◌<◌, true, false, List, [], ◌∷◌, length, take, is_some, Ok, Err, Result}
+use Rattle.std.specs.Prelude.{◌≡◌, ℕ, ◌<◌, true, false, List, [], ◌∷◌, length, is_some, Ok, Err, Result}
 use Rattle.std.specs.List.{AllByRecursion}
 use Rattle.text.specs.Names.{is_name}
 use Rattle.text.specs.Spelled.{spelled}
@@ -14,8 +14,8 @@ use Rattle.records.specs.Entries.{Said, an_event, some_bounds, a_need, linear_bo
 abbrev pub said_by : Entry → Said
 said_by (Event name) = an_event (spelled name)
 said_by (Linear l) = some_bounds (linear_bounds l.from l.to l.low l.high)
-said_by (Delay d) = some_bounds (delay_bounds d.to (take d.count d.inputs))
-said_by (Limit l) = some_bounds (limit_bound l.kind l.k l.to (take l.count l.terms) ∷ [])
+said_by (Delay d) = some_bounds (delay_bounds d.to d.inputs.items)
+said_by (Limit l) = some_bounds (limit_bound l.kind l.k l.to l.terms.items ∷ [])
 said_by (Need n) = a_need n
 
 -- a line was read as is defined

@@ -2,6 +2,7 @@
 #![tactic(auto)]
 
 pub mod entry;
-mod field;
+mod group;
 mod line;
 pub mod load;
+mod reader;

@@ -1,24 +1,15 @@
 //! Load: a text into a new sheet and blank slots.
-ghost use Rattle.std.specs.Prelude.{◌≡◌, ◌≤◌, [], ◌∷◌, map, length, take, replicate, Ok, Err, MatchResult};
-ghost use Rattle.std.specs.List.{AllByRecursion};
-ghost use Rattle.text.specs.Checks.{whole_text};
-ghost use Rattle.text.specs.Split.{lines_of};
-ghost use Rattle.text.specs.Spelled.{spelled};
+ghost use Rattle.std.specs.Prelude.{◌≡◌, ◌≤◌, map, length};
 ghost use Rattle.timing.specs.Bounds.{term_of};
-ghost use Rattle.timing.specs.Limits.{delay_limit};
-ghost use Rattle.timing.specs.Model.{BoundWithin};
 ghost use Rattle.sheet.specs.Model.{sheet_of};
-ghost use Rattle.sheet.specs.Plain.{new_sheet};
-ghost use Rattle.records_fault.specs.declared.fault.RecordFault.TheVariants.{Text};
-ghost use Rattle.records.specs.Fields.{carried, map_ok};
 ghost use Rattle.records.specs.Meanings.{LinearMeans, DelayMeans, LimitMeans};
-ghost use Rattle.records.specs.Entries.{high_term, low_bound, high_bound, low_bounds, linear_bounds, delay_bounds, limit_bound, an_event, some_bounds};
-ghost use Rattle.records.specs.Reads.{said_by, Fitting};
+ghost use Rattle.records.specs.Entries.{high_term};
 ghost use Rattle.records.specs.Refusals.{at_line};
-ghost use Rattle.records.specs.Loads.{blank as blankNeed, Blank, bound_added, bounds_added, event_added, added, line_adds, lines_add, loaded, state_of, answer_of, sheet_after, slots_after};
+ghost use Rattle.records.specs.Loads.{Blank, loaded, answer_of, sheet_after, slots_after};
 
-use crate::entry::{Delay, Entry, Input, Limit, Linear, Need};
+use crate::entry::{Delay, Entry, Input, Linear, Need};
 use crate::line::read_line;
+use arrayvec::ArrayVec;
 use records_fault::fault::{LoadFault, RecordFault};
 use rules::RuleSet;
 use sheet::drawn::Drawn;
@@ -29,22 +20,24 @@ use text::name::Name;
 use text::reader::Reader;
 use timing::bound::Term;
 
-fn blank(slots: &mut [Need])
-    ensures { slots.new ≡ replicate (length slots.old) blankNeed }
-{
-    for slot in slots.iter_mut() {
-        *slot = Need {
-            from: 0,
-            to: 0,
-            most: 0,
-        };
-    }
+/// A load while it goes on: a sheet, and slots of which the first `used` hold needs and the rest are blank.
+#[derive(Drop)]
+struct Loading<'a, R: RuleSet> {
+    sheet: &'a mut Drawn<R>,
+    slots: &'a mut [Need],
+    // a count beside the slots: they are lent, a fixed number of them, by the caller
+    used: usize,
+    // the number of the line that is read; 0 before the first
+    line: usize,
+    ghost within: { used ≤ length slots.now },
+    ghost rest: { Blank slots.now used },
 }
 
 // What a bound's answer is to the line that adds it: of a bound among the sheet's events only two refusals are left.
 fn at_line(answer: Result<usize, CallFault>, line: usize) -> Result<(), LoadFault>
     ensures { result ≡ at_line line answer }
 {
+    // `match`, not `map_err`: the number goes too, and one `match` says both
     match answer {
         Ok(_) => Ok(()),
         Err(CallFault::NotAdmitted) => Err(LoadFault::NotAdmitted { line }),
@@ -52,232 +45,171 @@ fn at_line(answer: Result<usize, CallFault>, line: usize) -> Result<(), LoadFaul
     }
 }
 
-// The terms FROM + HIGH of the inputs, in the first places of eight.
-fn high_terms(inputs: &[Input]) -> [Term; 8]
+// The terms FROM + HIGH of the inputs.
+fn high_terms(inputs: &[Input]) -> ArrayVec<Term, 8>
     requires { length inputs.now ≤ 8 }
-    ensures { map term_of (take (length inputs.now) result) ≡ map high_term inputs.now }
+    ensures { map term_of result.items ≡ map high_term inputs.now }
 {
-    let mut terms = [Term { from: 0, delay: 0 }; 8];
-    for (i, input) in inputs.iter().enumerate() {
-        terms[i] = Term {
+    let mut terms = ArrayVec::new();
+    for input in inputs {
+        terms.push(Term {
             from: input.from,
-            delay: input.high as i64,
-        };
+            delay: i64::from(input.high),
+        });
     }
     terms
 }
 
-fn add_event<R: RuleSet>(sheet: &mut Drawn<R>, line: usize, name: &Name) -> Result<(), LoadFault>
-    requires { Fitting (sheet_of sheet.old).names (an_event (spelled name.now)) }
-    ensures adds { map_ok (λ _. sheet_of sheet.new) result ≡ event_added line (sheet_of sheet.old) (spelled name.now) }
-    ensures keeps { sheet.new.rules ≡ sheet.old.rules }
-{
-    match sheet.event(name.as_bytes()) {
-        Ok(_) => Ok(()),
-        Err(_) => Err(LoadFault::TooManyEvents { line }),
-    }
-}
+impl<'a, R: RuleSet> Loading<'a, R> {
+    ghost use Rattle.std.specs.Prelude.{◌≡◌, [], ◌∷◌, length, replicate};
+    ghost use Rattle.text.specs.Spelled.{spelled};
+    ghost use Rattle.sheet.specs.Plain.{new_sheet};
+    ghost use Rattle.records.specs.Entries.{given_bound, low_bound, low_bounds, linear_bounds, delay_bounds, limit_bound, an_event, some_bounds, a_need};
+    ghost use Rattle.records.specs.Reads.{said_by, Fitting};
+    ghost use Rattle.records.specs.Loads.{line_adds, start, blank};
+    ghost use Rattle.records.specs.Loadings.{names_in, state_in, KeepsPlace, Adds, AddsSaid};
 
-fn add_bound<R: RuleSet>(
-    sheet: &mut Drawn<R>,
-    line: usize,
-    kind: u8,
-    k: u8,
-    to: usize,
-    terms: &[Term],
-) -> Result<(), LoadFault>
-    requires { BoundWithin (length (sheet_of sheet.old).names) delay_limit (limit_bound kind k to terms.now) }
-    ensures adds { map_ok (λ _. sheet_of sheet.new) result ≡ bound_added (R.RuleSet.admitted sheet.old.rules) line (sheet_of sheet.old) (limit_bound kind k to terms.now) }
-    ensures keeps { sheet.new.rules ≡ sheet.old.rules }
-{
-    at_line(sheet.bound(kind, k, to, terms), line)
-}
-
-// FROM ≤ TO - LOW, where LOW is given.
-fn add_low<R: RuleSet>(
-    sheet: &mut Drawn<R>,
-    line: usize,
-    from: usize,
-    to: usize,
-    low: Option<i32>,
-) -> Result<(), LoadFault>
-    requires { AllByRecursion (BoundWithin (length (sheet_of sheet.old).names) delay_limit) (low_bound from to low) }
-    ensures adds { map_ok (λ _. sheet_of sheet.new) result ≡ bounds_added (R.RuleSet.admitted sheet.old.rules) line (sheet_of sheet.old) (low_bound from to low) }
-    ensures keeps { sheet.new.rules ≡ sheet.old.rules }
-{
-    match low {
-        Some(low) => add_bound(
+    // A load of a text into a new sheet and blank slots: these, made so.
+    fn new(sheet: &'a mut Drawn<R>, slots: &'a mut [Need]) -> Loading<'a, R>
+        ensures starts { state_in result ≡ start }
+        ensures used { result.used ≡ 0 }
+        ensures line { result.line ≡ 0 }
+        ensures sheet { result.sheet.ghost_name ≡ sheet.entry.ghost_name }
+        ensures slots { result.slots.ghost_name ≡ slots.entry.ghost_name }
+        ensures rules { result.sheet.now.rules ≡ sheet.old.rules }
+        ensures room { length result.slots.now ≡ length slots.old }
+    {
+        sheet.clear();
+        slots.fill(Need::default());
+        Loading {
             sheet,
-            line,
-            0,
-            0,
-            from,
-            &[Term {
-                from: to,
-                delay: -(low as i64),
-            }],
-        ),
-        None => Ok(()),
-    }
-}
-
-// TO ≤ FROM + HIGH, where HIGH is given.
-fn add_high<R: RuleSet>(
-    sheet: &mut Drawn<R>,
-    line: usize,
-    from: usize,
-    to: usize,
-    high: Option<i32>,
-) -> Result<(), LoadFault>
-    requires { AllByRecursion (BoundWithin (length (sheet_of sheet.old).names) delay_limit) (high_bound from to high) }
-    ensures adds { map_ok (λ _. sheet_of sheet.new) result ≡ bounds_added (R.RuleSet.admitted sheet.old.rules) line (sheet_of sheet.old) (high_bound from to high) }
-    ensures keeps { sheet.new.rules ≡ sheet.old.rules }
-{
-    match high {
-        Some(high) => add_bound(
-            sheet,
-            line,
-            0,
-            0,
-            to,
-            &[Term {
-                from,
-                delay: high as i64,
-            }],
-        ),
-        None => Ok(()),
-    }
-}
-
-fn add_linear<R: RuleSet>(sheet: &mut Drawn<R>, line: usize, l: Linear) -> Result<(), LoadFault>
-    requires { Fitting (sheet_of sheet.old).names (some_bounds (linear_bounds l.from l.to l.low l.high)) }
-    ensures adds { map_ok (λ _. sheet_of sheet.new) result ≡ bounds_added (R.RuleSet.admitted sheet.old.rules) line (sheet_of sheet.old) (linear_bounds l.from l.to l.low l.high) }
-    ensures keeps { sheet.new.rules ≡ sheet.old.rules }
-{
-    add_low(sheet, line, l.from, l.to, l.low)?;
-    add_high(sheet, line, l.from, l.to, l.high)
-}
-
-// Each FROM ≤ TO - LOW, where LOW is given.
-fn add_lows<R: RuleSet>(
-    sheet: &mut Drawn<R>,
-    line: usize,
-    to: usize,
-    inputs: &[Input],
-) -> Result<(), LoadFault>
-    requires { AllByRecursion (BoundWithin (length (sheet_of sheet.old).names) delay_limit) (low_bounds to inputs.now) }
-    ensures adds { map_ok (λ _. sheet_of sheet.new) result ≡ bounds_added (R.RuleSet.admitted sheet.old.rules) line (sheet_of sheet.old) (low_bounds to inputs.now) }
-    ensures keeps { sheet.new.rules ≡ sheet.old.rules }
-{
-    for input in inputs {
-        add_low(sheet, line, input.from, to, input.low)?;
-    }
-    Ok(())
-}
-
-fn add_delay<R: RuleSet>(sheet: &mut Drawn<R>, line: usize, d: &Delay) -> Result<(), LoadFault>
-    requires { Fitting (sheet_of sheet.old).names (some_bounds (delay_bounds d.now.to (take d.now.count d.now.inputs))) }
-    ensures adds { map_ok (λ _. sheet_of sheet.new) result ≡ bounds_added (R.RuleSet.admitted sheet.old.rules) line (sheet_of sheet.old) (delay_bounds d.now.to (take d.now.count d.now.inputs)) }
-    ensures keeps { sheet.new.rules ≡ sheet.old.rules }
-{
-    let inputs = &d.inputs[0..d.count];
-    let terms = high_terms(inputs);
-    add_bound(sheet, line, 0, 0, d.to, &terms[0..d.count])?;
-    add_lows(sheet, line, d.to, inputs)
-}
-
-fn add_limit<R: RuleSet>(sheet: &mut Drawn<R>, line: usize, l: &Limit) -> Result<(), LoadFault>
-    requires { Fitting (sheet_of sheet.old).names (some_bounds (limit_bound l.now.kind l.now.k l.now.to (take l.now.count l.now.terms) ∷ [])) }
-    ensures adds { map_ok (λ _. sheet_of sheet.new) result ≡ bounds_added (R.RuleSet.admitted sheet.old.rules) line (sheet_of sheet.old) (limit_bound l.now.kind l.now.k l.now.to (take l.now.count l.now.terms) ∷ []) }
-    ensures keeps { sheet.new.rules ≡ sheet.old.rules }
-{
-    add_bound(sheet, line, l.kind, l.k, l.to, &l.terms[0..l.count])
-}
-
-// What an entry adds to the sheet and the slots; answers how many slots are used then.
-fn apply<R: RuleSet>(
-    sheet: &mut Drawn<R>,
-    slots: &mut [Need],
-    used: usize,
-    line: usize,
-    entry: &Entry,
-) -> Result<usize, LoadFault>
-    requires { (used ≤ length slots.old) × ((Blank slots.old used) × (Fitting (sheet_of sheet.old).names (said_by entry.now))) }
-    ensures adds { MatchResult result (λ u. (added (R.RuleSet.admitted sheet.old.rules) (length slots.old) line (state_of (sheet_of sheet.old) slots.old used) (said_by entry.now) ≡ Ok (state_of (sheet_of sheet.new) slots.new u)) × (u ≤ length slots.new) × Blank slots.new u)
-        (λ fault. added (R.RuleSet.admitted sheet.old.rules) (length slots.old) line (state_of (sheet_of sheet.old) slots.old used) (said_by entry.now) ≡ Err fault) }
-    ensures keeps { sheet.new.rules ≡ sheet.old.rules }
-{
-    match entry {
-        Entry::Event(name) => add_event(sheet, line, name)?,
-        Entry::Linear(linear) => add_linear(sheet, line, *linear)?,
-        Entry::Delay(delay) => add_delay(sheet, line, delay)?,
-        Entry::Limit(limit) => add_limit(sheet, line, limit)?,
-        Entry::Need(need) => {
-            if used >= slots.len() {
-                return Err(LoadFault::NoSlot { line });
-            }
-            slots[used] = *need;
-            return Ok(used + 1);
+            slots,
+            used: 0,
+            line: 0,
         }
     }
-    Ok(used)
-}
 
-// What a line adds; answers how many slots are used then.
-fn step<R: RuleSet>(
-    sheet: &mut Drawn<R>,
-    slots: &mut [Need],
-    used: usize,
-    line: Line,
-) -> Result<usize, LoadFault>
-    requires { (used ≤ length slots.old) × (Blank slots.old used) }
-    ensures adds { MatchResult result (λ u. (line_adds (R.RuleSet.admitted sheet.old.rules) (length slots.old) line.entry.number (state_of (sheet_of sheet.old) slots.old used) line.entry.bytes.now ≡ Ok (state_of (sheet_of sheet.new) slots.new u)) × (u ≤ length slots.new) × Blank slots.new u)
-        (λ fault. line_adds (R.RuleSet.admitted sheet.old.rules) (length slots.old) line.entry.number (state_of (sheet_of sheet.old) slots.old used) line.entry.bytes.now ≡ Err fault) }
-    ensures keeps { sheet.new.rules ≡ sheet.old.rules }
-{
-    let entry = read_line(sheet, line)?;
-    apply(sheet, slots, used, line.number, &entry)
-}
-
-// Reads every line of the text; answers how many slots are used.
-fn load_lines<R: RuleSet>(
-    sheet: &mut Drawn<R>,
-    slots: &mut [Need],
-    text: &[u8],
-) -> Result<usize, LoadFault>
-    requires { Blank slots.old 0 }
-    ensures adds { MatchResult result (λ u. (lines_add (R.RuleSet.admitted sheet.old.rules) (length slots.old) 1 (state_of (sheet_of sheet.old) slots.old 0) (lines_of text.now) ≡ Ok (state_of (sheet_of sheet.new) slots.new u)) × (u ≤ length slots.new) × Blank slots.new u)
-        (λ fault. lines_add (R.RuleSet.admitted sheet.old.rules) (length slots.old) 1 (state_of (sheet_of sheet.old) slots.old 0) (lines_of text.now) ≡ Err fault) }
-    ensures keeps { sheet.new.rules ≡ sheet.old.rules }
-{
-    let mut reader = Reader::new(text);
-    let mut used = 0;
-    while let Some(line) = reader.next_line() {
-        used = step(sheet, slots, used, line)?;
+    fn add_event(&mut self, name: &Name) -> Result<(), LoadFault>
+        requires { Fitting (names_in self.old) (an_event (spelled name.now)) }
+        ensures { AddsSaid (an_event (spelled name.now)) result self.old self.new }
+    {
+        // a match, not `map_err`: the check finds what holds after it in each arm, and not through the call
+        match self.sheet.event(name.as_bytes()) {
+            Ok(_) => Ok(()),
+            Err(_) => Err(LoadFault::TooManyEvents { line: self.line }),
+        }
     }
-    Ok(used)
-}
 
-fn check_text(text: &[u8]) -> Result<(), RecordFault>
-    ensures { result ≡ carried Text (whole_text text.now) }
-{
-    check_whole(text)?;
-    Ok(())
-}
+    fn add_bound(&mut self, kind: u8, k: u8, to: usize, terms: &[Term]) -> Result<(), LoadFault>
+        requires { Fitting (names_in self.old) (some_bounds (limit_bound kind k to terms.now ∷ [])) }
+        ensures { AddsSaid (some_bounds (limit_bound kind k to terms.now ∷ [])) result self.old self.new }
+    {
+        at_line(self.sheet.bound(kind, k, to, terms), self.line)
+    }
 
-// The text into a new sheet and blank slots.
-fn load_text<R: RuleSet>(
-    sheet: &mut Drawn<R>,
-    slots: &mut [Need],
-    text: &[u8],
-) -> Result<usize, LoadFault>
-    requires { (sheet_of sheet.old ≡ new_sheet) × (Blank slots.old 0) }
-    ensures adds { MatchResult result (λ u. (loaded (R.RuleSet.admitted sheet.old.rules) (length slots.old) text.now ≡ Ok (state_of (sheet_of sheet.new) slots.new u)) × (u ≤ length slots.new) × Blank slots.new u)
-        (λ fault. loaded (R.RuleSet.admitted sheet.old.rules) (length slots.old) text.now ≡ Err fault) }
-    ensures keeps { sheet.new.rules ≡ sheet.old.rules }
-{
-    check_text(text)?;
-    load_lines(sheet, slots, text)
+    // TO ≤ FROM + DELAY, where it is given.
+    fn add_given(&mut self, to: usize, from: usize, delay: Option<i64>) -> Result<(), LoadFault>
+        requires { Fitting (names_in self.old) (some_bounds (given_bound to from delay)) }
+        ensures { AddsSaid (some_bounds (given_bound to from delay)) result self.old self.new }
+    {
+        match delay {
+            Some(delay) => self.add_bound(0, 0, to, &[Term { from, delay }]),
+            None => Ok(()),
+        }
+    }
+
+    // FROM ≤ TO - LOW, where LOW is given.
+    fn add_low(&mut self, from: usize, to: usize, low: Option<i32>) -> Result<(), LoadFault>
+        requires { Fitting (names_in self.old) (some_bounds (low_bound from to low)) }
+        ensures { AddsSaid (some_bounds (low_bound from to low)) result self.old self.new }
+    {
+        self.add_given(from, to, low.map(|low| -i64::from(low)))
+    }
+
+    fn add_linear(&mut self, l: Linear) -> Result<(), LoadFault>
+        requires { Fitting (names_in self.old) (some_bounds (linear_bounds l.from l.to l.low l.high)) }
+        ensures { AddsSaid (some_bounds (linear_bounds l.from l.to l.low l.high)) result self.old self.new }
+    {
+        self.add_low(l.from, l.to, l.low)?;
+        self.add_given(l.to, l.from, l.high.map(i64::from))
+    }
+
+    // Each FROM ≤ TO - LOW, where LOW is given.
+    fn add_lows(&mut self, to: usize, inputs: &[Input]) -> Result<(), LoadFault>
+        requires { Fitting (names_in self.old) (some_bounds (low_bounds to inputs.now)) }
+        ensures { AddsSaid (some_bounds (low_bounds to inputs.now)) result self.old self.new }
+    {
+        for input in inputs {
+            self.add_low(input.from, to, input.low)?;
+        }
+        Ok(())
+    }
+
+    fn add_delay(&mut self, d: &Delay) -> Result<(), LoadFault>
+        requires { Fitting (names_in self.old) (some_bounds (delay_bounds d.now.to d.now.inputs.items)) }
+        ensures { AddsSaid (some_bounds (delay_bounds d.now.to d.now.inputs.items)) result self.old self.new }
+    {
+        let terms = high_terms(&d.inputs);
+        self.add_bound(0, 0, d.to, &terms)?;
+        self.add_lows(d.to, &d.inputs)
+    }
+
+    fn add_need(&mut self, need: Need) -> Result<(), LoadFault>
+        ensures { AddsSaid (a_need need) result self.old self.new }
+    {
+        if self.used == self.slots.len() {
+            return Err(LoadFault::NoSlot { line: self.line });
+        }
+        self.slots[self.used] = need;
+        self.used += 1;
+        Ok(())
+    }
+
+    // What an entry says.
+    fn add(&mut self, entry: &Entry) -> Result<(), LoadFault>
+        requires { Fitting (names_in self.old) (said_by entry.now) }
+        ensures { AddsSaid (said_by entry.now) result self.old self.new }
+    {
+        match entry {
+            Entry::Event(name) => self.add_event(name),
+            Entry::Linear(linear) => self.add_linear(*linear),
+            Entry::Delay(delay) => self.add_delay(delay),
+            Entry::Limit(l) => self.add_bound(l.kind, l.k, l.to, &l.terms),
+            Entry::Need(need) => self.add_need(*need),
+        }
+    }
+
+    fn add_line(&mut self, line: Line) -> Result<(), LoadFault>
+        ensures adds { Adds (line_adds (R.RuleSet.admitted self.old.sheet.now.rules) (length self.old.slots.now) line.entry.number (state_in self.old) line.entry.bytes.now) result self.old self.new }
+        ensures line { self.new.line ≡ line.entry.number }
+    {
+        self.line = line.number;
+        let entry = read_line(self.sheet, line)?;
+        self.add(&entry)
+    }
+
+    // The whole text, into a new sheet and blank slots.
+    fn add_text(&mut self, text: &[u8]) -> Result<(), LoadFault>
+        requires { state_in self.old ≡ start }
+        ensures { Adds (loaded (R.RuleSet.admitted self.old.sheet.now.rules) (length self.old.slots.now) text.now) result self.old self.new }
+    {
+        check_whole(text).map_err(RecordFault::from)?;
+        for line in Reader::new(text) {
+            self.add_line(line)?;
+        }
+        Ok(())
+    }
+
+    // Makes the sheet new, and every slot blank.
+    fn clear(&mut self)
+        ensures sheet { sheet_of self.new.sheet.now ≡ new_sheet }
+        ensures slots { self.new.slots.now ≡ replicate (length self.old.slots.now) blank }
+        ensures same { KeepsPlace self.old self.new }
+    {
+        self.sheet.clear();
+        self.slots.fill(Need::default());
+        self.used = 0;
+    }
 }
 
 /// Reads a text into the sheet, which is made new first and keeps its rule set, and its needs into the slots, which
@@ -295,13 +227,11 @@ pub fn load<R: RuleSet>(
     ensures delay { DelayMeans (R.RuleSet.suffices sheet.old.rules) }
     ensures limit { LimitMeans (R.RuleSet.suffices sheet.old.rules) }
 {
-    blank(slots);
-    sheet.clear();
-    match load_text(sheet, slots, text) {
-        Ok(needs) => Ok(needs),
+    let mut loading = Loading::new(sheet, slots);
+    match loading.add_text(text) {
+        Ok(()) => Ok(loading.used),
         Err(fault) => {
-            blank(slots);
-            sheet.clear();
+            loading.clear();
             Err(fault)
         }
     }

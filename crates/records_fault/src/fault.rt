@@ -7,7 +7,7 @@ ghost use Rattle.records_fault.specs.declared.fault.LoadFault.TheVariants.{Recor
 use text::fault::{Layer, Place, TextFault};
 
 /// What can be wrong with a record, apart from the sheet that it is for.
-#[derive(Clone, Copy, PartialEq, Eq)]
+#[derive(Clone, Copy, Debug, PartialEq, Eq)]
 pub enum RecordFault {
     /// its bytes
     Text(TextFault),
@@ -23,7 +23,7 @@ pub enum RecordFault {
 }
 
 /// Why a text is not loaded.
-#[derive(Clone, Copy, PartialEq, Eq)]
+#[derive(Clone, Copy, Debug, PartialEq, Eq)]
 pub enum LoadFault {
     Record(RecordFault),
     /// an event has this name already
@@ -38,11 +38,12 @@ pub enum LoadFault {
 }
 
 /// Why a sheet is not written.
-#[derive(Clone, Copy, PartialEq, Eq)]
+#[derive(Clone, Copy, Debug, PartialEq, Eq)]
 pub enum WriteRefusal {
     TooFewBytes,
 }
 
+// From is written by hand, not derived: what `?` makes of a fault stands in clauses, and a derived From has none
 impl From<TextFault> for RecordFault {
     ghost from_gives = { λ fault r. r ≡ Text fault };
 
@@ -59,6 +60,7 @@ impl From<RecordFault> for LoadFault {
     }
 }
 
+// number, layer and place are methods of each fault, not of a trait: nothing takes a fault of any type
 impl RecordFault {
     /// The number by which users know the fault.
     pub fn number(self) -> u8
@@ -89,11 +91,10 @@ impl RecordFault {
     {
         match self {
             RecordFault::Text(fault) => fault.place(),
-            RecordFault::MalformedName(place) => place,
-            RecordFault::BadNumeral(place) => place,
-            RecordFault::UnknownWord { line } => Place { line, field: 0 },
-            RecordFault::FieldCount { line } => Place { line, field: 0 },
-            RecordFault::LowAboveHigh { line } => Place { line, field: 0 },
+            RecordFault::MalformedName(place) | RecordFault::BadNumeral(place) => place,
+            RecordFault::UnknownWord { line }
+            | RecordFault::LowAboveHigh { line }
+            | RecordFault::FieldCount { line } => Place::on_line(line),
         }
     }
 }
@@ -129,12 +130,11 @@ impl LoadFault {
     {
         match self {
             LoadFault::Record(fault) => fault.place(),
-            LoadFault::NameTaken(place) => place,
-            LoadFault::NoSuchEvent(place) => place,
-            LoadFault::TooManyEvents { line } => Place { line, field: 0 },
-            LoadFault::TooManyBounds { line } => Place { line, field: 0 },
-            LoadFault::NotAdmitted { line } => Place { line, field: 0 },
-            LoadFault::NoSlot { line } => Place { line, field: 0 },
+            LoadFault::NameTaken(place) | LoadFault::NoSuchEvent(place) => place,
+            LoadFault::TooManyEvents { line }
+            | LoadFault::NotAdmitted { line }
+            | LoadFault::NoSlot { line }
+            | LoadFault::TooManyBounds { line } => Place::on_line(line),
         }
     }
 }

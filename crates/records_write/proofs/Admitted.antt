@@ -1,7 +1,9 @@
 -- The calls make only sheets whose bounds the rules admit.
-use Rattle.std.proofs.Common.{◌≡◌, ℕ, zero, suc, ◌+◌, Bool, true, false, cond, not, ltb, List, [], ◌∷◌, ◌++◌, length, take, drop, is_some, Some, None, Option, sym, refl, ap, subst, ap₂, arith}
-use Rattle.std.proofs.lemmas.List.{drop_all}
-use Rattle.std.proofs.lemmas.Bool.{and_from, and_parts}
+use Rattle.std.proofs.Common.{◌≡◌, ℕ, ◌+◌, Bool, true, false, cond, not, ltb, List, [], ◌∷◌, ◌++◌, length, take, drop, is_some, Some, None, Option, sym, refl, subst, ◌∙◌}
+use Rattle.std.proofs.lemmas.List.Elements.{All-append, All-take, All-drop}
+use Rattle.std.proofs.lemmas.List.Folds.{list_all-append}
+use Rattle.std.proofs.lemmas.List.Sums.{AllPass-from_list_all, list_all-from_AllPass}
+use Rattle.std.proofs.lemmas.Bool.{and_from}
 use Rattle.rules.specs.Laws.{Admits}
 use Rattle.text.specs.Checks.{each}
 use Rattle.text.specs.Names.{is_name}
@@ -13,22 +15,11 @@ use Rattle.sheet.specs.declared.fault.Refusal.TheVariants.{NoSuchBound}
 use Rattle.records.specs.Loads.{admitted}
 use Rattle.records_write.specs.Made.{Step, an_event, a_bound, a_strike, after_step, after_steps}
 
-each_push : (p : BoundModel → Bool) (xs : List BoundModel) (x : BoundModel) → each p xs ≡ true → p x ≡ true → each p (xs ++ (x ∷ [])) ≡ true
-each_push p [] x h e = and_from (p x) true e refl
-each_push p (y ∷ xs) x h e = let q = and_parts (p y) (each p xs) h in and_from (p y) (each p (xs ++ (x ∷ []))) q.0 (each_push p xs x q.1 e)
-
--- nothing is taken from an empty list
-take_none : (i : ℕ) → take {A = BoundModel} i [] ≡ []
-take_none zero = refl
-take_none (suc i) = refl
-
 each_removed : (p : BoundModel → Bool) (xs : List BoundModel) (i : ℕ) → each p xs ≡ true → each p (take i xs ++ drop (i + 1) xs) ≡ true
-each_removed p [] i h = ap (each p) (ap₂ (λ (a b : List BoundModel). a ++ b) (take_none i) (drop_all (i + 1) [] (omega arith)))
-each_removed p (x ∷ xs) zero h = (and_parts (p x) (each p xs) h).1
-each_removed p (x ∷ xs) (suc i) h =
-    let q = and_parts (p x) (each p xs) h in
-    let next : suc i + 1 ≡ suc (i + 1) = omega arith in
-    and_from (p x) _ q.0 (subst (λ (n : ℕ). each p (take i xs ++ drop n (x ∷ xs)) ≡ true) (sym next) (each_removed p xs i q.1))
+each_removed p xs i h =
+    let all = AllPass-from_list_all p xs h in
+    list_all-from_AllPass p (take i xs ++ drop (i + 1) xs)
+    (All-append (λ x. p x ≡ true) (take i xs) (drop (i + 1) xs) (All-take (λ x. p x ≡ true) i xs all) (All-drop (λ x. p x ≡ true) (i + 1) xs all))
 
 module _ (A : Admits) where
   abbrev Admitted : PlainSheet → Type 0
@@ -54,7 +45,7 @@ module _ (A : Admits) where
       go false e c f d = h
       go true e true f d = h
       go true e false (Some fault) d = h
-      go true e false None true = each_push (admitted A) s.bounds b h e
+      go true e false None true = list_all-append (admitted A) s.bounds (b ∷ []) ∙ and_from (each (admitted A) s.bounds) (each (admitted A) (b ∷ [])) h (and_from (admitted A b) true e refl)
       go true e false None false = h
 
   after_strike : (s : PlainSheet) (i : ℕ) → Admitted s → Admitted (strike_call s i).after

@@ -1,19 +1,25 @@
 -- Fields of printable bytes, put on a line with tabs between them, come apart again, and so do lines in a text.
-use Rattle.std.proofs.Common.{◌≡◌, ℕ, suc, ◌+◌, ◌-◌, ◌*◌, ◌^◌, ◌<◌, ◌≤◌, true, false, ◌&&◌, eqb, leb, ◌⊎◌, List, [], ◌∷◌, ◌++◌, map, length, get_or, ℤ, pos, negsuc, decimal, refl, ap, ◌∙◌, inl, inr, append_assoc, mul-zero, mul-suc, arith}
+use Rattle.std.proofs.Common.{◌≡◌, ℕ, suc, ◌+◌, ◌-◌, ◌*◌, ◌^◌, ◌<◌, ◌≤◌, Bool, true, false, ◌&&◌, eqb, leb, ◌⊎◌, List, [], ◌∷◌, ◌++◌, map, length, get_or, ℤ, pos, negsuc, decimal, refl, sym, ap, subst, ◌∙◌, inl, inr, append_assoc, arith}
 use lib.Signed.{mag}
 use Rattle.std.specs.Char.{is_ascii_digit}
 use Rattle.std.specs.Fmt.{signed_decimal}
-use Rattle.std.specs.List.{flat_map, AllByRecursion}
+use Rattle.std.specs.List.{flat_map, All, AllPass, AllByRecursion}
 use Rattle.std.specs.Str.{all_ascii_digits}
 use Rattle.std.proofs.lemmas.Fmt.{digits_decimal}
 use Rattle.std.proofs.ByRecursion.{All-append, All-weaker}
 use Rattle.std.proofs.lemmas.List.{append-nil, length-append, length_push, get_or_push, get_or-append_right}
+use Rattle.std.proofs.lemmas.List.Concat.{length-flat_map}
+use Rattle.std.proofs.lemmas.List.Elements.{All-from_recursion, recursion_from_All}
+use Rattle.std.proofs.lemmas.List.Folds.{list_all-append}
+use Rattle.std.proofs.lemmas.List.Recursion.{and_at}
+use Rattle.std.proofs.lemmas.List.Splits.{slice_split_none, slice_split_at}
+use Rattle.std.proofs.lemmas.List.Sums.{AllPass-from_list_all, list_all-from_AllPass, sum_by-le}
 use Rattle.std.proofs.lemmas.Str.Parse.{numerals_by_value, tells_all_ascii_digits}
-use Rattle.std.proofs.lemmas.Bool.{cond-true, cond-false, eq-eqb, ne_eqb, and_parts, and_from}
+use Rattle.std.proofs.lemmas.Bool.{cond-false, ne_eqb, and_parts, and_from}
 use Rattle.std.proofs.lemmas.Bool.Decides.{nat_tests}
 use Rattle.text.specs.Checks.{each, allowed, finished}
 use Rattle.text.specs.Names.{name_byte, is_name}
-use Rattle.text.specs.Split.{onto, parted_by, lines_of, fields_of, Lacks, tabbed}
+use Rattle.text.specs.Split.{onto, lines_of, fields_of, Lacks, tabbed}
 
 -- bytes that may stand in a field
 abbrev pub Printable : List ℕ → Type 0
@@ -22,25 +28,22 @@ Printable f = AllByRecursion (λ b. (32 ≤ b) × (b ≤ 126)) f
 printable_lacks : (c : ℕ) → c < 32 → (f : List ℕ) → Printable f → Lacks c f
 printable_lacks c small f = All-weaker _ (λ b. eqb b c ≡ false) (λ b p. ne_eqb b c (λ e. omega (arith, p.0))) f
 
-printable_allowed : (f : List ℕ) → Printable f → each allowed f ≡ true
-printable_allowed [] h = refl
-printable_allowed (b ∷ bs) h =
-    let low = h.0.0 in
-    let high = h.0.1 in
-    let here : allowed b ≡ true = grind (arith, nat_tests) in
-    and_from (allowed b) (each allowed bs) here (printable_allowed bs h.1)
+lacked : (c : ℕ) (f : List ℕ) → Lacks c f → All (λ b. eqb b c ≡ false) f
+lacked c f h = All-from_recursion (λ b. eqb b c ≡ false) f h
 
-each_append : (xs ys : List ℕ) → each allowed xs ≡ true → each allowed ys ≡ true → each allowed (xs ++ ys) ≡ true
-each_append [] ys p q = q
-each_append (x ∷ xs) ys p q = let k = and_parts (allowed x) (each allowed xs) p in and_from (allowed x) (each allowed (xs ++ ys)) k.0 (each_append xs ys k.1 q)
+printable_allowed : (f : List ℕ) → Printable f → each allowed f ≡ true
+printable_allowed f h =
+    list_all-from_AllPass allowed f
+    (All-from_recursion (λ b. allowed b ≡ true) f
+    (All-weaker (λ b. (32 ≤ b) × (b ≤ 126)) (λ b. allowed b ≡ true) (λ b p. let low = p.0 in let high = p.1 in grind (arith, nat_tests)) f h))
 
 -- names and numerals are printable
 printable_byte : (b : ℕ) → name_byte b ≡ true → (32 ≤ b) × (b ≤ 126)
 printable_byte b h = (grind (arith, nat_tests), grind (arith, nat_tests))
 
-name_bytes : (f : List ℕ) → each name_byte f ≡ true → Printable f
-name_bytes [] h = tt
-name_bytes (b ∷ bs) h = let p = and_parts (name_byte b) (each name_byte bs) h in (printable_byte b p.0, name_bytes bs p.1)
+-- bytes that all pass a test, as the bytes of names and numerals do
+passing : (test : ℕ → Bool) → ((b : ℕ) → test b ≡ true → (32 ≤ b) × (b ≤ 126)) → (f : List ℕ) → AllPass test f → Printable f
+passing test each_is f h = recursion_from_All (λ b. (32 ≤ b) × (b ≤ 126)) f (λ k d lt. each_is (get_or f k d) (h k d lt))
 
 pub name_parts : (f : List ℕ) → is_name f ≡ true → (1 ≤ length f) × (length f ≤ 12) × (each name_byte f ≡ true)
 name_parts f h =
@@ -49,41 +52,33 @@ name_parts f h =
     (grind (arith, nat_tests), grind (arith, nat_tests), q.1)
 
 pub printable_name : (f : List ℕ) → is_name f ≡ true → Printable f
-printable_name f h = name_bytes f (name_parts f h).2
+printable_name f h = passing name_byte printable_byte f (AllPass-from_list_all name_byte f (name_parts f h).2)
 
 printable_digit : (d : ℕ) → is_ascii_digit d ≡ true → (32 ≤ d) × (d ≤ 126)
 printable_digit d e = (grind (arith, nat_tests), grind (arith, nat_tests))
 
-digits_printable : (ds : List ℕ) → all_ascii_digits ds ≡ true → Printable ds
-digits_printable [] e = tt
-digits_printable (d ∷ ds) e = let p = and_parts (is_ascii_digit d) (all_ascii_digits ds) e in (printable_digit d p.0, digits_printable ds p.1)
-
 pub printable_decimal : (n : ℕ) → n < 2 ^ 64 → Printable (decimal n)
-printable_decimal n h = digits_printable (decimal n) (digits_decimal (numerals_by_value (λ (ds : List ℕ). all_ascii_digits ds ≡ true) tells_all_ascii_digits) n h)
+printable_decimal n h =
+    passing is_ascii_digit printable_digit (decimal n) (λ k d lt.
+    and_at all_ascii_digits is_ascii_digit refl (λ _ _. refl) (decimal n) k d lt
+    (digits_decimal (numerals_by_value (λ (ds : List ℕ). all_ascii_digits ds ≡ true) tells_all_ascii_digits) n h))
 
 pub printable_signed : (z : ℤ) → mag z < 2 ^ 63 → Printable (signed_decimal z)
 printable_signed (pos n) h = printable_decimal n (omega arith)
 printable_signed (negsuc n) h = ((omega arith, omega arith), printable_decimal (suc n) (omega arith))
 
--- the first field of a line, and the last
-field_first : (c : ℕ) (f rest : List ℕ) → Lacks c f → parted_by c (f ++ (c ∷ rest)) ≡ f ∷ parted_by c rest
-field_first c [] rest h = cond-true (eqb c c) _ _ (eq-eqb c c refl)
-field_first c (x ∷ f) rest h = cond-false (eqb x c) _ _ h.0 ∙ ap (onto x) (field_first c f rest h.1)
-
-field_last : (c : ℕ) (f : List ℕ) → Lacks c f → parted_by c f ≡ f ∷ []
-field_last c [] h = refl
-field_last c (x ∷ f) h = cond-false (eqb x c) _ _ h.0 ∙ ap (onto x) (field_last c f h.1)
-
 pub fields_tabbed : (f : List ℕ) (fs : List (List ℕ)) → AllByRecursion Printable (f ∷ fs) → fields_of (tabbed (f ∷ fs)) ≡ f ∷ fs
-fields_tabbed f [] h = field_last 9 f (printable_lacks 9 (omega arith) f h.0)
+fields_tabbed f [] h = slice_split_none (λ b. eqb b 9) f (lacked 9 f (printable_lacks 9 (omega arith) f h.0))
 fields_tabbed f (g ∷ gs) h =
-    field_first 9 f (tabbed (g ∷ gs)) (printable_lacks 9 (omega arith) f h.0)
+    slice_split_at (λ b. eqb b 9) f 9 (tabbed (g ∷ gs)) (lacked 9 f (printable_lacks 9 (omega arith) f h.0)) refl
     ∙ ap (λ (ps : List (List ℕ)). f ∷ ps) (fields_tabbed g gs h.1)
 
 pub line_allowed : (fs : List (List ℕ)) → AllByRecursion Printable fs → each allowed (tabbed fs) ≡ true
 line_allowed [] h = refl
 line_allowed (f ∷ []) h = printable_allowed f h.0
-line_allowed (f ∷ g ∷ gs) h = each_append f (9 ∷ tabbed (g ∷ gs)) (printable_allowed f h.0) (line_allowed (g ∷ gs) h.1)
+line_allowed (f ∷ g ∷ gs) h =
+    list_all-append allowed f (9 ∷ tabbed (g ∷ gs))
+    ∙ and_from (each allowed f) (each allowed (9 ∷ tabbed (g ∷ gs))) (printable_allowed f h.0) (line_allowed (g ∷ gs) h.1)
 
 pub line_lacks : (fs : List (List ℕ)) → AllByRecursion Printable fs → Lacks 10 (tabbed fs)
 line_lacks [] h = tt
@@ -105,10 +100,10 @@ module _ {X : Type 0} (g : X → List ℕ) where
       ap lines_of (append_assoc (ended x) (flat_map ended xs) rest ∙ append_assoc (g x) (10 ∷ []) (flat_map ended xs ++ rest))
       ∙ line_first (g x) (flat_map ended xs ++ rest) h.0 ∙ ap (λ (ls : List (List ℕ)). g x ∷ ls) (lines_joined xs rest h.1)
 
-  pub length-joined : (m : ℕ) (xs : List X) → AllByRecursion (λ x. length (ended x) ≤ m) xs → length (flat_map ended xs) ≤ m * length xs
-  length-joined m [] h = omega (arith, mul-zero m)
-  length-joined m (x ∷ xs) h =
-      let rest = length-joined m xs h.1 in omega (arith, length-append (ended x) (flat_map ended xs), mul-suc m (length xs), h.0)
+  pub length-joined : (m : ℕ) (xs : List X) → AllByRecursion (λ x. length (ended x) ≤ m) xs → length (flat_map ended xs) ≤ length xs * m
+  length-joined m xs h =
+      subst (λ (n : ℕ). n ≤ length xs * m) (sym (length-flat_map ended xs))
+      (sum_by-le (λ x. length (ended x)) m xs (All-from_recursion (λ x. length (ended x) ≤ m) xs h))
 
 -- a text that is empty or ends with byte 10
 abbrev pub Closed : List ℕ → Type 0

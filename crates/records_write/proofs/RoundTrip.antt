@@ -1,5 +1,5 @@
 -- Loading the text of a sheet under rules that admit its bounds gives the sheet.
-use Rattle.std.proofs.Common.{◌≡◌, ℕ, suc, ◌+◌, ◌*◌, ◌<◌, ◌≤◌, true, false, ltb, List, [], ◌∷◌, ◌++◌, map, length, get_or, ℤ, pos, negsuc, neg_ℤ, ◌≤ℤ◌, is_some, None, Ok, decimal, Result, sym, refl, ap, ◌∙◌, subst, ⊎_elim, append_assoc, add-zero, arith}
+use Rattle.std.proofs.Common.{◌≡◌, ℕ, suc, ◌+◌, ◌*◌, ◌<◌, ◌≤◌, true, false, ltb, List, [], ◌∷◌, ◌++◌, map, length, get_or, ℤ, pos, negsuc, neg_ℤ, ◌≤ℤ◌, is_some, None, Ok, decimal, Result, sym, refl, ap, ◌∙◌, subst, append_assoc, add-zero, arith}
 use Rattle.std.specs.Fmt.{signed_decimal}
 use Rattle.std.specs.List.{flat_map, AllByRecursion}
 use Rattle.std.specs.Str.{bytes_eq}
@@ -8,7 +8,7 @@ use Rattle.std.proofs.ByRecursion.{All-get_or, All-weaker}
 use Rattle.std.proofs.lemmas.Slice.Eq.{bytes_eq-Decides}
 use Rattle.std.proofs.lemmas.List.{append-nil, length-append, length_push, get_or_at, get_or_append_left}
 use Rattle.std.proofs.lemmas.Int.{ints}
-use Rattle.std.proofs.lemmas.Bool.{cond-true, cond-false, lt-ltb, le-ltb, and_parts, cases_Bool}
+use Rattle.std.proofs.lemmas.Bool.{cond-true, cond-false, lt-ltb, le-ltb, and_parts, false_from_ne_true}
 use Rattle.rules.specs.Laws.{Admits}
 use Rattle.text.specs.declared.fault.TextFault.{TextFault}
 use Rattle.text.specs.Checks.{and_then, each, whole_text, finished}
@@ -36,14 +36,11 @@ pub record Made (s : PlainSheet) : Type 0 where
   pub shaped : AllByRecursion (Shaped s.names) s.bounds
 
 -- a name that stands nowhere has no number
-differ : (x y : List ℕ) → (x ≡ y → ⊥) → bytes_eq x y ≡ false
-differ x y ne = ⊎_elim (λ (e : bytes_eq x y ≡ true). absurd (ne ((bytes_eq-Decides x y).0 e))) (λ e. e) (cases_Bool (bytes_eq x y))
-
 none_numbered : (ns : List (List ℕ)) (n : List ℕ) → ((i : ℕ) → i < length ns → get_or ns i [] ≡ n → ⊥) → number_in ns n ≡ None
 none_numbered [] n h = refl
 none_numbered (m ∷ ms) n h =
     let rest = none_numbered ms n (λ i lt. h (suc i) (omega arith)) in
-    rw (differ m n (h 0 (omega arith)), rest)
+    rw (false_from_ne_true (bytes_eq m n) (λ e. h 0 (omega arith) ((bytes_eq-Decides m n).0 e)), rest)
 
 -- a name of distinct names is new after those before it
 fresh_name : (pre : List (List ℕ)) (x : List ℕ) (xs : List (List ℕ)) → Distinct (pre ++ (x ∷ xs)) → is_some (number_in pre x) ≡ false
@@ -100,10 +97,6 @@ module _ (admits : Admits) (slots : ℕ) where
         ∙ ap (λ (l : List BoundModel). lines_add admits slots (n + length (b ∷ bs)) (record { sheet = record { names = names; bounds = l }; needs = [] }) ls) whole
 
 -- how long the lines are
-length_line : (f : List ℕ) (fs : List (List ℕ)) → 0 < length fs → length (tabbed (f ∷ fs)) ≡ length f + 1 + length (tabbed fs)
-length_line f [] h = absurd (omega arith)
-length_line f (g ∷ gs) h = omega (arith, length-append f (9 ∷ tabbed (g ∷ gs)))
-
 pub event_long : (name : List ℕ) → is_name name ≡ true → length (line_of (event_fields name)) ≤ 19
 event_long name is =
     let parts = name_parts name is in omega (arith, length_push (tabbed (event_fields name)) 10, parts.1)

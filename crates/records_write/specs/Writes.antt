@@ -1,5 +1,5 @@
 -- A sheet as text: a line for each event, then a limit line for each bound.
-use Rattle.std.specs.Prelude.{◌≡◌, ℕ, ◌<◌, ◌≤◌, true, cond, List, [], ◌∷◌, ◌++◌, length, drop, Ok, Err, codes, decimal, Result, nat_le, slice_index_or}
+use Rattle.std.specs.Prelude.{◌≡◌, ℕ, ◌<◌, true, cond, List, [], ◌∷◌, ◌++◌, length, drop, Ok, Err, codes, decimal, Result, nat_le, slice_index_or}
 use Rattle.std.specs.List.{flat_map}
 use Rattle.std.specs.Fmt.{signed_decimal}
 use Rattle.rules.specs.Laws.{Admits}
@@ -39,10 +39,6 @@ wrote_answer text out = cond (nat_le (length text) (length out)) (Ok (length tex
 -- bytes after the text stay; where there are too few, none is written
 abbrev pub wrote_bytes : List ℕ → List ℕ → List ℕ
 wrote_bytes text out = cond (nat_le (length text) (length out)) (text ++ drop (length text) out) out
-
--- a delay in range has at most eight bytes
-abbrev pub ShortDelay : TermModel → Type 0
-ShortDelay t = length (signed_decimal t.delay) ≤ 8
 
 -- a kind and a K are bytes
 abbrev pub ByteSized : BoundModel → Type 0

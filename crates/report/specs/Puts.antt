@@ -40,11 +40,8 @@ abbrev pub verdict_word : Bool → List ℕ
 verdict_word met = cond met (codes "met") (codes "broken")
 
 -- the line of a need
-abbrev pub need_fields : List ℕ → List ℕ → List ℕ → Bool → List ℕ → List ℕ
-need_fields from to most met separation = printed (codes "need" ∷ from ∷ to ∷ most ∷ verdict_word met ∷ separation ∷ [])
-
 abbrev pub verdict_line : ℤ → List ℕ → List ℕ → Option ℤ → Bool → List ℕ
-verdict_line most from to separation met = need_fields from to (signed_decimal most) met (separation_field separation)
+verdict_line most from to separation met = printed (codes "need" ∷ from ∷ to ∷ signed_decimal most ∷ verdict_word met ∷ separation_field separation ∷ [])
 
 -- a need by the names of its events, and what is read of TO; then the places, unless it is met
 abbrev pub need_put : ℤ → Option (List ℕ) → Option (List ℕ) → Result Reading Refusal → List ℕ → List ℕ

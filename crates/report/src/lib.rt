@@ -24,18 +24,10 @@ pub fn report(heap: Global, text: &[u8]) -> Result<Vec<u8>, AllocError>
 {
     let mut out = Vec::new(heap);
     let mut sheet = Drawn::open(heap, Vote {})?;
-    let mut slots = [Need {
-        from: 0,
-        to: 0,
-        most: 0,
-    }; MAX_NEEDS];
-    let count = match load(text, &mut sheet, &mut slots) {
-        Ok(count) => count,
-        Err(fault) => {
-            put_fault(&mut out, fault)?;
-            return Ok(out);
-        }
-    };
-    put_findings(&mut out, sheet, &slots[..count])?;
+    let mut slots = [Need::default(); MAX_NEEDS];
+    match load(text, &mut sheet, &mut slots) {
+        Ok(count) => put_findings(&mut out, sheet, &slots[..count])?,
+        Err(fault) => put_fault(&mut out, fault)?,
+    }
     Ok(out)
 }

@@ -1,41 +1,23 @@
 -- The set of the elements of a list that pass a test: how it grows, and law 1 over such sets.
-use Rattle.std.proofs.Common.{◌≡◌, ℕ, ◌+◌, ◌-◌, ◌*◌, ◌/◌, ◌%◌, ◌^◌, ◌<◌, min, Bool, true, false, cond, List, [], ◌∷◌, ◌++◌, map, length, get_or, take, refl, ap, ◌∙◌, subst, ap₂, mul_assoc, pow-suc, arith, length-take-le, pow_pos}
-use lib.Bits.{bit_and, bit_or, and_step, or_comm}
+use Rattle.std.proofs.Common.{◌≡◌, ℕ, ◌+◌, ◌-◌, ◌*◌, ◌%◌, ◌^◌, ◌<◌, Bool, true, false, cond, List, [], ◌∷◌, ◌++◌, map, length, get_or, take, refl, ap, ◌∙◌, subst, ap₂, mul_assoc, pow-suc, arith, length-take-le, pow_pos}
+use lib.Bits.{bit_or, and_step, or_comm}
 use Rattle.std.specs.List.{AllByRecursion}
 use Rattle.std.proofs.lemmas.Nat.{or_shifted, one_shl}
 use Rattle.std.proofs.lemmas.List.{take_more}
 use Rattle.rules.specs.Laws.{Admits, Enough, Laws, Within}
 use Rattle.rules.specs.Masks.{mask_by}
 
--- a mask, digit by digit
-bit_lt : (b : Bool) → cond b 1 0 < 2
-bit_lt true = omega arith
-bit_lt false = omega arith
-
-half_is : (b : Bool) (m : ℕ) → (cond b 1 0 + 2 * m) / 2 ≡ m
-half_is true m = omega arith
-half_is false m = omega arith
-
-odd_is : (b : Bool) (m : ℕ) → (cond b 1 0 + 2 * m) % 2 ≡ cond b 1 0
-odd_is true m = omega arith
-odd_is false m = omega arith
-
-bits_within : (b c : Bool) → (b ≡ true → c ≡ true) → min (cond b 1 0) (cond c 1 0) ≡ cond b 1 0
-bits_within true c f = rw (f refl)
-bits_within false true f = refl
-bits_within false false f = refl
-
 module _ {X : Type 0} where
   pub mask_lt : (p : X → Bool) (xs : List X) → mask_by p xs < 2 ^ length xs
   mask_lt p [] = omega arith
   mask_lt p (x ∷ xs) =
       let ih = mask_lt p xs in
-      let b = bit_lt (p x) in
-      omega (arith, pow-suc 2 (length xs))
+      let twice = pow-suc 2 (length xs) in
+      grind arith
 
   -- one more element takes the next bit
   pub mask_push : (p : X → Bool) (xs : List X) (x : X) → mask_by p (xs ++ (x ∷ [])) ≡ mask_by p xs + cond (p x) 1 0 * 2 ^ length xs
-  mask_push p [] x = elim (p x) as (λ b. cond b 1 0 + 2 * 0 ≡ 0 + cond b 1 0 * 1) [ true ↦ refl | false ↦ refl ]
+  mask_push p [] x = grind arith
   mask_push p (y ∷ xs) x =
       let ih = mask_push p xs x in
       let e = pow-suc 2 (length xs) in
@@ -84,11 +66,10 @@ module _ {X : Type 0} where
   mask_within p q (x ∷ xs) a =
       let m = mask_by p xs in
       let n = mask_by q xs in
-      and_step (cond (p x) 1 0 + 2 * m) (cond (q x) 1 0 + 2 * n)
-      ∙ ap₂ (λ (i j : ℕ). bit_and i j * 2 + min ((cond (p x) 1 0 + 2 * m) % 2) ((cond (q x) 1 0 + 2 * n) % 2)) (half_is (p x) m) (half_is (q x) n)
-      ∙ ap₂ (λ (i j : ℕ). bit_and m n * 2 + min i j) (odd_is (p x) m) (odd_is (q x) n)
-      ∙ ap₂ (λ (i j : ℕ). i * 2 + j) (mask_within p q xs a.1) (bits_within (p x) (q x) a.0)
-      ∙ omega arith
+      let ih = mask_within p q xs a.1 in
+      let step = and_step (cond (p x) 1 0 + 2 * m) (cond (q x) 1 0 + 2 * n) in
+      let some = a.0 in
+      grind arith
 
 pub mask_map : {X Y : Type 0} (p : Y → Bool) (f : X → Y) (xs : List X) → mask_by p (map f xs) ≡ mask_by (λ x. p (f x)) xs
 mask_map p f [] = refl

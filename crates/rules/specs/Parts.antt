@@ -1,6 +1,6 @@
 -- The parts of a set of terms, at any width: the first k terms, the others, how many there are.
 -- Of each: what it is for no terms, what it is for all, and that a test of it grows with the set.
-use Rattle.std.specs.Prelude.{◌≡◌, ℕ, ◌+◌, ◌-◌, ◌/◌, ◌%◌, ◌^◌, ◌<◌, ◌≤◌, Bool, true, false, ◌&&◌, ◌||◌, bit_and, nat_le, nat_lt, refl}
+use Rattle.std.specs.Prelude.{◌≡◌, ℕ, ◌+◌, ◌-◌, ◌/◌, ◌%◌, ◌^◌, ◌<◌, ◌≤◌, Bool, true, ◌&&◌, ◌||◌, bit_and, nat_le, nat_lt, refl}
 use Rattle.std.proofs.Common.{sym, ap, ap₂, subst, ◌∙◌, ⊎_elim, zero-le, le_trans, le_of_eq, arith, pow_pos, pow_mono}
 use Rattle.std.proofs.Math.Nat.{zero-div, div-eq_of_lt}
 use Rattle.std.proofs.Math.Arith.{bin_ind}
@@ -92,16 +92,14 @@ firsts_grows k g a b w = g (first_terms k a) (first_terms k b) (within_firsts k 
 pub others_grows : (k : ℕ) {test : ℕ → Bool} → Growing test → Growing (λ set. test (other_terms k set))
 others_grows k g a b w = g (other_terms k a) (other_terms k b) (within_others k a b w)
 
-both_true : (x y u v : Bool) → (x ≡ true → u ≡ true) → (y ≡ true → v ≡ true) → (x && y) ≡ true → (u && v) ≡ true
-both_true true y u v f g e = let p = f refl in let q = g e in grind arith
-both_true false y u v f g e = grind arith
-
-either_true : (x y u v : Bool) → (x ≡ true → u ≡ true) → (y ≡ true → v ≡ true) → (x || y) ≡ true → (u || v) ≡ true
-either_true true y u v f g e = let p = f refl in grind arith
-either_true false y u v f g e = let q = g e in grind arith
-
 pub and_grows : {p q : ℕ → Bool} → Growing p → Growing q → Growing (λ set. p set && q set)
-and_grows {p = p} {q = q} f g a b w = both_true (p a) (q a) (p b) (q b) (f a b w) (g a b w)
+and_grows f g a b w e =
+    let one = f a b w in
+    let other = g a b w in
+    grind arith
 
 pub or_grows : {p q : ℕ → Bool} → Growing p → Growing q → Growing (λ set. p set || q set)
-or_grows {p = p} {q = q} f g a b w = either_true (p a) (q a) (p b) (q b) (f a b w) (g a b w)
+or_grows f g a b w e =
+    let one = f a b w in
+    let other = g a b w in
+    grind arith

@@ -8,21 +8,21 @@ use Rattle.rules.specs.Sets.{plain_added, plain_holds, vote_added, vote_holds, g
 use Rattle.rules.specs.Parts.{firsts_none, ones_none, firsts_all, others_all, ones-all, some_all, some_grows, count_grows, firsts_grows, others_grows, and_grows}
 use Rattle.rules.specs.AddedLemmas.{laws_with}
 
-plain_adds : Adds plain_added plain_holds
+pub plain_adds : Adds plain_added plain_holds
 plain_adds = record {
   grows = λ kind k n one eight yes a b w e. e;
   empty = λ kind k n one eight yes. refl;
   full = λ kind k n one eight yes. yes;
 }
 
-vote_adds : Adds vote_added vote_holds
+pub vote_adds : Adds vote_added vote_holds
 vote_adds = record {
   grows = λ kind k n one eight yes. count_grows (cond (kind == 1) n k);
   empty = λ kind k n one eight yes. let none = ones_none in grind (arith, nat_tests);
   full = λ kind k n one eight yes. let all = ones-all n in grind (arith, nat_tests);
 }
 
-group_adds : Adds group_added group_holds
+pub group_adds : Adds group_added group_holds
 group_adds = record {
   grows = λ kind k n one eight yes. and_grows (firsts_grows k some_grows) (others_grows k some_grows);
   empty = λ kind k n one eight yes. let none = firsts_none k in grind (arith, nat_tests);

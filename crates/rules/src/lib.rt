@@ -1,16 +1,21 @@
 //! Delay rules: which terms of a bound must allow it.
 //!
 //! A rule set answers two questions, `admits` and `enough`. `RuleSet` says what an implementation answers and
-//! which laws it owes; `Plain`, `Vote` and `Group` are three of them. A set of terms is a mask, bit i for term i.
+//! which laws it owes; `Plain`, `Vote` and `Group` are three of them, each given by its `AddedKinds`. A set of terms
+//! is a mask, bit i for term i.
 #![tactic(auto)]
 
-ghost use Rattle.std.specs.Prelude.{◌≡◌, ◌<◌};
+ghost use Rattle.std.specs.Prelude.{◌≡◌, ℕ, ◌<◌, Bool, false};
 ghost use Rattle.rules.specs.Laws.{Admits, Enough, Laws};
 ghost use Rattle.rules.specs.Masks.{all_terms, first_terms, other_terms, is_set};
-ghost use Rattle.rules.specs.Sets.{plain_admits, plain_enough, vote_admits, vote_enough, group_admits, group_enough};
-ghost use Rattle.rules.specs.SetsLemmas.{plain_laws, vote_laws, group_laws};
+ghost use Rattle.rules.specs.Added.{admits_with, enough_with, Adds};
+ghost use Rattle.rules.specs.AddedLemmas.{laws_with};
+ghost use Rattle.rules.specs.Sets.{plain_added, plain_holds, vote_added, vote_holds, group_added, group_holds};
+ghost use Rattle.rules.specs.SetsLemmas.{plain_adds, vote_adds, group_adds};
+ghost use Rattle.rules.specs.Asked.{asked_by, holds_with, voted, ReadsAs};
 
 /// Anything that answers two questions, with one fixed yes or no for each.
+// kind, K and mask are bytes, not types of their own: a set of a buyer has its own kinds, and the text of a sheet has them as numbers
 pub trait RuleSet {
     /// What is admitted.
     ghost admitted: { Self → Admits };
@@ -21,12 +26,12 @@ pub trait RuleSet {
     /// Is a bound of this kind and K, with so many terms, admitted?
     fn admits(&self, kind: u8, k: u8, count: u8) -> bool
         ensures answer { result ≡ admitted self.now kind k count }
-        ensures unchanged { self.now ≡ self.now };
+        ensures unchanged { self.exit.now ≡ self.entry.now };
 
     /// Is this set of its terms enough for such a bound?
     fn enough(&self, kind: u8, k: u8, count: u8, set: u8) -> bool
         ensures answer { result ≡ suffices self.now kind k count set }
-        ensures unchanged { self.now ≡ self.now };
+        ensures unchanged { self.exit.now ≡ self.entry.now };
 
     /// The laws owed by every implementation.
     ghost lawful: { (rules : Self) → Laws (admitted rules) (suffices rules) };
@@ -61,23 +66,97 @@ pub fn is_set(count: u8, set: u8) -> bool
     other_terms(count, set) == 0
 }
 
+/// A rule set, given by the kinds that it adds to kind 0, "latest". The rest is common to all that are made so:
+/// one to eight terms, no bit at or past the count, and kind 0 with K 0, for which any term is enough.
+pub trait AddedKinds {
+    /// An added kind with its K, as it was read.
+    type Kind: Copy;
+
+    /// Which kinds are added.
+    ghost added: { Admits };
+
+    /// Which sets are enough for them.
+    ghost holds: { Enough };
+
+    /// Which sets of so many terms are enough for a kind that was read.
+    ghost asks: { Self.Kind → ℕ → ℕ → Bool };
+
+    /// Reads a kind and a K, for so many terms; None where that is not added.
+    fn read(kind: u8, k: u8, count: u8) -> Option<Self::Kind>
+        ensures { ReadsAs added holds asks kind k count result };
+
+    /// Is this set of so many terms enough for the kind?
+    fn passes(kind: Self::Kind, count: u8, set: u8) -> bool
+        ensures { result ≡ asks kind count set };
+
+    /// What the added kinds owe.
+    ghost owed: { Adds added holds };
+}
+
+impl<S: AddedKinds> RuleSet for S {
+    ghost admitted = { λ _. admits_with S.added };
+
+    ghost suffices = { λ _. enough_with S.added S.holds };
+
+    ghost lawful = { λ rules. laws_with S.owed };
+
+    fn admits(&self, kind: u8, k: u8, count: u8) -> bool {
+        read::<S>(kind, k, count).is_some()
+    }
+
+    fn enough(&self, kind: u8, k: u8, count: u8, set: u8) -> bool {
+        is_set(count, set)
+            && match read::<S>(kind, k, count) {
+                Some(Asked::Any) => set > 0,
+                Some(Asked::Added(kind)) => S::passes(kind, count, set),
+                None => false,
+            }
+    }
+}
+
+/// What a bound asks of its terms: any of them, or what an added kind asks.
+// an enum of its own, not an Option: `Any` is a kind like the others, and `read` answers None for what is no kind
+#[derive(Clone, Copy)]
+enum Asked<Kind> {
+    Any,
+    Added(Kind),
+}
+
+/// Reads a kind and a K, for so many terms; None where that is not admitted.
+fn read<S: AddedKinds>(kind: u8, k: u8, count: u8) -> Option<Asked<S::Kind>>
+    ensures { ReadsAs (admits_with S.added) (holds_with S.holds) (asked_by S.asks) kind k count result }
+{
+    if !(1..=8).contains(&count) {
+        return None;
+    }
+    match kind {
+        0 => (k == 0).then_some(Asked::Any),
+        _ => S::read(kind, k, count).map(Asked::Added),
+    }
+}
+
 /// Kind 0, "latest": any term is enough. Nothing else.
 #[derive(Clone, Copy)]
 pub struct Plain {}
 
-impl RuleSet for Plain {
-    ghost admitted = { λ _. plain_admits };
+impl AddedKinds for Plain {
+    /// None is ever read.
+    type Kind = ();
 
-    ghost suffices = { λ _. plain_enough };
+    ghost added = { plain_added };
 
-    ghost lawful = { λ rules. plain_laws };
+    ghost holds = { plain_holds };
 
-    fn admits(&self, kind: u8, k: u8, count: u8) -> bool {
-        kind == 0 && k == 0 && 1 <= count && count <= 8
+    ghost asks = { λ _ n set. false };
+
+    ghost owed = { plain_adds };
+
+    fn read(_kind: u8, _k: u8, _count: u8) -> Option<()> {
+        None
     }
 
-    fn enough(&self, kind: u8, k: u8, count: u8, set: u8) -> bool {
-        self.admits(kind, k, count) && is_set(count, set) && set > 0
+    fn passes(_kind: (), _count: u8, _set: u8) -> bool {
+        false
     }
 }
 
@@ -85,31 +164,37 @@ impl RuleSet for Plain {
 #[derive(Clone, Copy)]
 pub struct Vote {}
 
-impl RuleSet for Vote {
-    ghost admitted = { λ _. vote_admits };
+/// What Vote's added kinds ask.
+#[derive(Clone, Copy)]
+pub enum Voted {
+    Every,
+    AtLeast(u8),
+}
 
-    ghost suffices = { λ _. vote_enough };
+impl AddedKinds for Vote {
+    type Kind = Voted;
 
-    ghost lawful = { λ rules. vote_laws };
+    ghost added = { vote_added };
 
-    fn admits(&self, kind: u8, k: u8, count: u8) -> bool {
-        1 <= count
-            && count <= 8
-            && match kind {
-                0 | 1 => k == 0,
-                2 => 1 <= k && k <= count,
-                _ => false,
-            }
+    ghost holds = { vote_holds };
+
+    ghost asks = { voted };
+
+    ghost owed = { vote_adds };
+
+    fn read(kind: u8, k: u8, count: u8) -> Option<Voted> {
+        match kind {
+            1 if k == 0 => Some(Voted::Every),
+            2 if (1..=count).contains(&k) => Some(Voted::AtLeast(k)),
+            _ => None,
+        }
     }
 
-    fn enough(&self, kind: u8, k: u8, count: u8, set: u8) -> bool {
-        self.admits(kind, k, count)
-            && is_set(count, set)
-            && match kind {
-                0 => set > 0,
-                1 => set.count_ones() >= count as u32,
-                _ => set.count_ones() >= k as u32,
-            }
+    fn passes(kind: Voted, count: u8, set: u8) -> bool {
+        match kind {
+            Voted::Every => set.count_ones() >= u32::from(count),
+            Voted::AtLeast(k) => set.count_ones() >= u32::from(k),
+        }
     }
 }
 
@@ -117,29 +202,26 @@ impl RuleSet for Vote {
 #[derive(Clone, Copy)]
 pub struct Group {}
 
-impl RuleSet for Group {
-    ghost admitted = { λ _. group_admits };
+impl AddedKinds for Group {
+    /// The size of the first group.
+    type Kind = u8;
 
-    ghost suffices = { λ _. group_enough };
+    ghost added = { group_added };
 
-    ghost lawful = { λ rules. group_laws };
+    ghost holds = { group_holds };
 
-    fn admits(&self, kind: u8, k: u8, count: u8) -> bool {
-        1 <= count
-            && count <= 8
-            && match kind {
-                0 => k == 0,
-                1 => 1 <= k && k < count,
-                _ => false,
-            }
+    ghost asks = { group_holds 1 };
+
+    ghost owed = { group_adds };
+
+    fn read(kind: u8, k: u8, count: u8) -> Option<u8> {
+        match kind {
+            1 if (1..=7).contains(&k) && k < count => Some(k),
+            _ => None,
+        }
     }
 
-    fn enough(&self, kind: u8, k: u8, count: u8, set: u8) -> bool {
-        self.admits(kind, k, count)
-            && is_set(count, set)
-            && match kind {
-                0 => set > 0,
-                _ => first_terms(k, set) > 0 && other_terms(k, set) > 0,
-            }
+    fn passes(first: u8, _count: u8, set: u8) -> bool {
+        first_terms(first, set) > 0 && other_terms(first, set) > 0
     }
 }

@@ -1,4 +1,5 @@
 pub mod Promises
+pub mod Witness
 pub mod Meant
 pub mod Finding
 pub mod Running

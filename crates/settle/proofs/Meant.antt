@@ -1,8 +1,9 @@
 -- Where what settling found is right, the answers are the defined ones; and the definitions leave no choice.
-use Rattle.std.proofs.Common.{◌≡◌, ℕ, ◌<◌, Bool, true, false, cond, ltb, length, get_or, ℤ, pos, Some, None, Ok, Err, Option, Result, sym, refl, ap, ◌∙◌, subst, inl, inr, arith, lit≤, w64, SFits, to_z, of_z}
+use Rattle.std.proofs.Common.{◌≡◌, ℕ, ◌<◌, Bool, true, false, cond, ltb, length, get_or, ℤ, pos, Some, None, Ok, Err, Option, Result, sym, refl, ap, ◌∙◌, subst, inl, inr, arith, lit≤}
 use lib.Signed.{le_z, lt_z}
-use Rattle.std.proofs.lemmas.Int.{ints, to_z-of_z}
+use Rattle.std.proofs.lemmas.Int.{ints}
 use Rattle.std.proofs.lemmas.Bool.{cond-true, cond-false, cond_both, lt-ltb, le-ltb, ltb-true, ltb-false}
+use Rattle.rules.specs.declared.RuleSet.{Ghosts}
 use Rattle.rules.specs.Laws.{Admits, Enough, Laws}
 use Rattle.timing.specs.Limits.{delay_limit}
 use Rattle.timing.specs.Model.{IsSheet}
@@ -11,13 +12,19 @@ use Rattle.timing.specs.Places.{span, separation}
 use Rattle.timing.proofs.Keeping.{choice}
 use Rattle.timing.proofs.Range.{place_tells}
 use Rattle.timing.proofs.Statements.{separation_is, far_places_are_open, places_are_unique, knot_is_unique}
+use Rattle.sheet.specs.Model.{sheet_of}
 use Rattle.sheet.specs.Plain.{PlainSheet}
+use Rattle.sheet.specs.declared.drawn.Drawn.{Drawn}
+use Rattle.sheet.proofs.Standing.{sheet_is}
 use Rattle.sheet.specs.declared.fault.Refusal.{Refusal}
 use Rattle.sheet.specs.declared.fault.Refusal.TheVariants.{NoSuchSource, NoSuchEvent, NoSuchBound, Contradictory as IsContradictory, NotContradictory}
 use Rattle.settle.specs.declared.reading.Reading.{Reading}
 use Rattle.settle.specs.declared.settled.Found.{Found}
 use Rattle.settle.specs.declared.settled.Found.TheVariants.{NoSource, Placed, Knotted}
 use Rattle.settle.specs.Held.{events, read_held, knot_held, within, verdict_on}
+use Rattle.settle.specs.declared.settled.Settled.{Settled}
+use Rattle.settle.specs.Model.{standing, read_of, knot_of, verdict_of, HoldsRight}
+use Rattle.settle.proofs.Witness.{right_known}
 use Rattle.settle.specs.Meaning.{PlacesFrom, Consistent, Right, Unread, Reads, Knots, Met, Broken, Judges}
 
 pub reads_from : (E : Enough) (s : PlainSheet) (source : ℕ) (found : Found) → Right E s source found → (e : ℕ) → Reads E s source e (read_held s found e)
@@ -36,20 +43,6 @@ knots_from E s source (Knotted flags) right i =
     cond_both (ltb i (length s.bounds)) _ _ (Knots E s source i)
     (λ q. (right.0, right.1, ltb-true i (length s.bounds) q, ((λ j. get_or flags j false), right.2, refl)))
     (λ q. (right.0, right.1, ltb-false i (length s.bounds) q))
-
--- so an answer that is what is held is the defined one
-pub reads_since : (E : Enough) (s : PlainSheet) (source : ℕ) (found : Found) (e : ℕ) (r : Result Reading Refusal)
-    → r ≡ read_held s found e → Right E s source found → Reads E s source e r
-reads_since E s source found e r q right = subst (Reads E s source e) (sym q) (reads_from E s source found right e)
-
-pub knots_since : (E : Enough) (s : PlainSheet) (source : ℕ) (found : Found) (i : ℕ) (r : Result Bool Refusal)
-    → r ≡ knot_held s found i → Right E s source found → Knots E s source i r
-knots_since E s source found i r q right = subst (Knots E s source i) (sym q) (knots_from E s source found right i)
-
--- the verdict on what was read, for a MOST that the program holds
-pub verdict_is : (o : Result Reading Refusal) (x : Reading) (most : ℤ) (b : Bool) → SFits w64 most → Ok x ≡ o → b ≡ within (to_z w64 (of_z w64 most)) x.separation
-    → Ok b ≡ verdict_on most o
-verdict_is o x most b fits p q = ap Ok (q ∙ ap (λ m. within m x.separation) (to_z-of_z w64 most fits)) ∙ ap (verdict_on most) p
 
 module _ {A : Admits} {E : Enough} (laws : Laws A E) (s : PlainSheet) (sheet : IsSheet 64 delay_limit (events s) s.bounds) (source : ℕ) where
   -- the verdict by the places: an open event passes any limit, and one with a separation stands at it
@@ -89,9 +82,32 @@ module _ {A : Admits} {E : Enough} (laws : Laws A E) (s : PlainSheet) (sheet : I
       cond_both (ltb to (events s)) _ _ (λ r. Judges E s source to most (verdict_on most r))
       (λ q. (right.0, ltb-true to (events s) q, right.1)) (λ q. (right.0, ltb-false to (events s) q))
 
-  pub judges_since : (found : Found) (to : ℕ) (most : ℤ) (r : Result Bool Refusal) → r ≡ verdict_on most (read_held s found to) → Right E s source found
-      → Judges E s source to most r
-  judges_since found to most r q right = subst (Judges E s source to most) (sym q) (judges_from found right to most)
+-- so an answer of a settled sheet is the defined one, since what it holds is right
+module _ {R : Type 0} {G : Ghosts R} (laws : (r : R) → Laws (G.admitted r) (G.suffices r)) (t : Settled R G) where
+  pub holds_right : HoldsRight (G.suffices t.drawn.rules) t
+  holds_right = right_known (laws t.drawn.rules) (standing t) (sheet_is t.drawn) t.source t.found t.right
+
+  -- also for the sheet that it was settled from
+  pub right_from : (d : Drawn R G) (source : ℕ) → t.drawn ≡ d → t.source ≡ source → Right (G.suffices d.rules) (sheet_of d) source t.found
+  right_from d source moved from =
+      subst (λ (x : Drawn R G). Right (G.suffices x.rules) (sheet_of x) source t.found) moved
+      (subst (λ (k : ℕ). Right (G.suffices t.drawn.rules) (standing t) k t.found) from holds_right)
+
+  pub reads_since : (e : ℕ) (r : Result Reading Refusal) → r ≡ read_of t e → Reads (G.suffices t.drawn.rules) (standing t) t.source e r
+  reads_since e r q =
+      let E = G.suffices t.drawn.rules in
+      subst (Reads E (standing t) t.source e) (sym q) (reads_from E (standing t) t.source t.found holds_right e)
+
+  pub knots_since : (i : ℕ) (r : Result Bool Refusal) → r ≡ knot_of t i → Knots (G.suffices t.drawn.rules) (standing t) t.source i r
+  knots_since i r q =
+      let E = G.suffices t.drawn.rules in
+      subst (Knots E (standing t) t.source i) (sym q) (knots_from E (standing t) t.source t.found holds_right i)
+
+  pub judges_since : (to : ℕ) (most : ℤ) (r : Result Bool Refusal) → r ≡ verdict_of t to most
+      → Judges (G.suffices t.drawn.rules) (standing t) t.source to most r
+  judges_since to most r q =
+      subst (Judges (G.suffices t.drawn.rules) (standing t) t.source to most) (sym q)
+      (judges_from (laws t.drawn.rules) (standing t) (sheet_is t.drawn) t.source t.found holds_right to most)
 
 module _ (E : Enough) (s : PlainSheet) (source : ℕ) where
   -- the refusals of read exclude one another, and an answer excludes them

@@ -120,7 +120,6 @@ pub record Stepped {R : Type 0} {G : Ghosts R} (A : Admits) (E : Enough) (before
   pub told : Told A E (stage_of before) c a
   pub stage : stage_of after ≡ after_call A (stage_of before) c
   pub rules : rules_in after ≡ rules_in before
-  pub right : RightIn E after
 
 -- a whole run on a new sheet, with the sheet at the end
 pub record Replays {R : Type 0} {G : Ghosts R} (A : Admits) (E : Enough) (rules : R) (calls : List Call) (answers : List Answer) (last : Sheet R G) : Type 0 where

@@ -27,6 +27,7 @@ pub enum Call<'n, 't> {
 }
 
 /// What a call answered.
+// no Result around it: that a sheet is in its other state is one answer among the others, and the run goes on
 #[derive(Clone, Copy)]
 pub enum Answer {
     /// To event and bound: the number of what was added.
@@ -44,6 +45,7 @@ pub enum Answer {
 }
 
 /// A sheet in one of its two states.
+// an enum round two types, not one type with a flag: to settle and to reopen move the sheet
 #[derive(Drop)]
 pub enum Sheet<R: RuleSet> {
     Drawn(Drawn<R>),

@@ -1,6 +1,7 @@
 -- What holds of a sheet still holds after a call.
-use Rattle.std.proofs.Common.{◌≡◌, ℕ, ◌+◌, ◌<◌, ◌≤◌, false, List, [], ◌∷◌, ◌++◌, length, get_or, take, drop, is_some, None, sym, ap, ◌∙◌, ⊎_elim, zero-le, arith}
-use Rattle.std.proofs.ByRecursion.{All-push, All-append, All-take, All-drop, every_from_all, all_from_every}
+use Rattle.std.proofs.Common.{◌≡◌, ℕ, ◌+◌, ◌<◌, ◌≤◌, false, List, [], ◌∷◌, ◌++◌, length, get_or, take, drop, is_some, None, sym, ap, ◌∙◌, ⊎_elim, arith}
+use Rattle.std.specs.List.{All}
+use Rattle.std.proofs.lemmas.List.Elements.{All-push, All-append, All-take, All-drop}
 use Rattle.std.proofs.lemmas.List.{length_push, get_or_append_left, get_or_push}
 use Rattle.std.proofs.lemmas.Bool.{cases_lt}
 use Rattle.timing.specs.Model.{BoundModel}
@@ -8,19 +9,6 @@ use Rattle.sheet.specs.Plain.{PlainSheet, number_in, terms_fault, named, bounded
 use Rattle.sheet.specs.Sound.{Distinct, Aimed, Termed}
 use Rattle.sheet.proofs.Numbering.{no_number}
 use Rattle.sheet.proofs.Terms.{more-events}
-
--- P holds at every place
-abbrev Held : {X : Type 0} → (X → Type 0) → List X → Type 0
-Held {X} P xs = (i : ℕ) (d : X) → i < length xs → P (get_or xs i d)
-
-module _ {X : Type 0} (P : X → Type 0) (xs : List X) where
-  held_push : (x : X) → Held P xs → P x → Held P (xs ++ x ∷ [])
-  held_push x h p k d lt = every_from_all P (xs ++ x ∷ []) (All-push P xs x (all_from_every P xs (λ j e _ l. h j e l)) p) k d zero-le lt
-
-  held-struck : (i : ℕ) → Held P xs → Held P (take i xs ++ drop (i + 1) xs)
-  held-struck i h k d lt =
-      let all = all_from_every P xs (λ j e _ l. h j e l) in
-      every_from_all P (take i xs ++ drop (i + 1) xs) (All-append P (take i xs) (drop (i + 1) xs) (All-take P i xs all) (All-drop P (i + 1) xs all)) k d zero-le lt
 
 -- event
 module _ (s : PlainSheet) (n : List ℕ) where
@@ -46,18 +34,21 @@ module _ (s : PlainSheet) (n : List ℕ) where
 module _ (s : PlainSheet) (b : BoundModel) where
   pub bounded_aimed : b.to < length s.names → Aimed s → Aimed (bounded s b).after
   unfolding bounded
-  bounded_aimed h a = held_push (λ (c : BoundModel). c.to < length s.names) s.bounds b a h
+  bounded_aimed h a = All-push (λ (c : BoundModel). c.to < length s.names) s.bounds b a h
 
   pub bounded_termed : None ≡ terms_fault (length s.names) b.terms → Termed s → Termed (bounded s b).after
   unfolding bounded
-  bounded_termed h a = held_push (λ (c : BoundModel). is_some (terms_fault (length s.names) c.terms) ≡ false) s.bounds b a (ap is_some (sym h))
+  bounded_termed h a = All-push (λ (c : BoundModel). is_some (terms_fault (length s.names) c.terms) ≡ false) s.bounds b a (ap is_some (sym h))
 
 -- strike
 module _ (s : PlainSheet) (i : ℕ) where
+  those_left : (P : BoundModel → Type 0) → All P s.bounds → All P (take i s.bounds ++ drop (i + 1) s.bounds)
+  those_left P h = All-append P (take i s.bounds) (drop (i + 1) s.bounds) (All-take P i s.bounds h) (All-drop P (i + 1) s.bounds h)
+
   pub struck_aimed : Aimed s → Aimed (struck s i).after
   unfolding struck
-  struck_aimed a = held-struck (λ (c : BoundModel). c.to < length s.names) s.bounds i a
+  struck_aimed a = those_left (λ (c : BoundModel). c.to < length s.names) a
 
   pub struck_termed : Termed s → Termed (struck s i).after
   unfolding struck
-  struck_termed a = held-struck (λ (c : BoundModel). is_some (terms_fault (length s.names) c.terms) ≡ false) s.bounds i a
+  struck_termed a = those_left (λ (c : BoundModel). is_some (terms_fault (length s.names) c.terms) ≡ false) a

@@ -2,5 +2,4 @@ pub mod Numbering
 pub mod Terms
 pub mod Outcomes
 pub mod Keeping
-pub mod Places
 pub mod Standing

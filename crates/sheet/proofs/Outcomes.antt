@@ -1,8 +1,9 @@
 -- Each call's way out, against its definition: one lemma for each check that can refuse, and one for the change made.
-use Rattle.std.proofs.Common.{◌≡◌, ℕ, ◌+◌, ◌-◌, ◌<◌, ◌≤◌, Bool, true, false, cond, not, ltb, ◌⊎◌, List, [], ◌∷◌, ◌++◌, map, length, take, drop, is_some, Some, None, Ok, Err, vec_items, vec_len, Option, Vec, sym, refl, ap, ◌∙◌, ⊎_elim, arith}
+use Rattle.std.proofs.Common.{◌≡◌, ℕ, ◌+◌, ◌-◌, ◌<◌, ◌≤◌, Bool, true, false, ◌⊎◌, List, [], ◌∷◌, ◌++◌, map, length, take, drop, is_some, Some, None, Ok, Err, vec_items, vec_len, Option, Vec, sym, refl, ap, ◌∙◌, arith}
+use Rattle.std.specs.Option.{ok_or}
 use Rattle.std.specs.declared.alloc.Global.{Global}
 use Rattle.std.proofs.lemmas.List.{length-map, map-append, map_push, take-map, drop-map}
-use Rattle.std.proofs.lemmas.Bool.{cases_Bool, cond-true, cond-false, not_from_true, not_from_false, lt-ltb, le-ltb}
+use Rattle.std.proofs.lemmas.Bool.{lt-ltb, le-ltb}
 use Rattle.rules.specs.Laws.{Admits, Enough, Laws}
 use Rattle.text.specs.Names.{is_name}
 use Rattle.text.specs.Spelled.{spelled}
@@ -13,55 +14,42 @@ use Rattle.timing.specs.declared.bound.Bound.{Bound}
 use Rattle.sheet.specs.declared.fault.CallFault.{CallFault}
 use Rattle.sheet.specs.declared.fault.CallFault.TheVariants.{MalformedName, NameTaken, NoSuchEvent, TooManyEvents, TooManyBounds, NotAdmitted}
 use Rattle.sheet.specs.declared.fault.Refusal.TheVariants.{NoSuchBound}
-use Rattle.sheet.specs.Plain.{PlainSheet, Outcome, Gives, number_in, refused, named, event_call, terms_fault, unless, bounded, bound_call, struck, strike_call}
+use Rattle.sheet.specs.Plain.{PlainSheet, Gives, number_in, refused, named, event_call, terms_fault, bounded, bound_call, struck, strike_call}
 use Rattle.sheet.specs.Sound.{plain_of}
 
-module _ {E : Type 0} where
-  refuses : (o : Outcome E) (s : PlainSheet) (fault : E) → o ≡ refused s fault → Gives o (Err fault) s
-  unfolding refused
-  refuses o s fault e = record { answer = ap (λ (x : Outcome E). x.answer) (sym e); sheet = ap (λ (x : Outcome E). x.after) (sym e) }
-
-  changes : (o o' : Outcome E) (r : ℕ) (after : PlainSheet) → o ≡ o' → o'.answer ≡ Ok r → after ≡ o'.after → Gives o (Ok r) after
-  changes o o' r after e er ea = record { answer = sym er ∙ ap (λ (x : Outcome E). x.answer) (sym e); sheet = ea ∙ ap (λ (x : Outcome E). x.after) (sym e) }
+-- the fault that is answered where there is no value
+pub fault_is : {X : Type 0} (o : Option X) (e f : CallFault) → Err f ≡ ok_or o e → f ≡ e
+fault_is None e f h = cc
+fault_is (Some x) e f h = cc
 
 -- event
+pub formed : (x : Name) (n : List ℕ) → spelled x ≡ n → is_name n ≡ true
+formed x n e = ap is_name (sym e) ∙ x.named
+
 module _ (s : PlainSheet) (n : List ℕ) where
   pub malformed : is_name n ≡ false → Gives (event_call s n) (Err MalformedName) s
-  unfolding event_call
-  malformed e = refuses (event_call s n) s MalformedName (cond-true (not (is_name n)) _ _ (not_from_false _ e))
-
-  well_formed : is_name n ≡ true
-      → event_call s n ≡ cond (is_some (number_in s.names n)) (refused s NameTaken) (cond (ltb (length s.names) 64) (named s n) (refused s TooManyEvents))
-  unfolding event_call
-  well_formed e = cond-false (not (is_name n)) _ _ (not_from_true _ e)
+  unfolding event_call refused
+  malformed e = rw e (record { answer = refl; sheet = refl })
 
   pub taken : is_name n ≡ true → is_some (number_in s.names n) ≡ true → Gives (event_call s n) (Err NameTaken) s
-  taken e t = refuses _ s NameTaken (well_formed e ∙ cond-true (is_some (number_in s.names n)) _ _ t)
-
-  free : is_name n ≡ true → is_some (number_in s.names n) ≡ false → event_call s n ≡ cond (ltb (length s.names) 64) (named s n) (refused s TooManyEvents)
-  free e t = well_formed e ∙ cond-false (is_some (number_in s.names n)) _ _ t
+  unfolding event_call refused
+  taken e t = rw (e, t) (record { answer = refl; sheet = refl })
 
   pub full_of_events : is_name n ≡ true → is_some (number_in s.names n) ≡ false → 64 ≤ length s.names → Gives (event_call s n) (Err TooManyEvents) s
-  full_of_events e t h = refuses _ s TooManyEvents (free e t ∙ cond-false (ltb (length s.names) 64) _ _ (le-ltb _ _ h))
+  unfolding event_call refused
+  full_of_events e t h = rw (e, t, le-ltb (length s.names) 64 h) (record { answer = refl; sheet = refl })
 
   pub event_added_lem : (r : ℕ) (after : PlainSheet) → is_name n ≡ true → is_some (number_in s.names n) ≡ false → length s.names < 64
       → length s.names ≡ r → after ≡ (named s n).after → Gives (event_call s n) (Ok r) after
-  unfolding named
-  event_added_lem r after e t h er ea = changes _ (named s n) r after (free e t ∙ cond-true (ltb (length s.names) 64) _ _ (lt-ltb _ _ h)) (ap Ok er) ea
+  unfolding event_call named
+  event_added_lem r after e t h er ea = rw (e, t, lt-ltb (length s.names) 64 h) (record { answer = ap Ok (sym er); sheet = ea })
 
 -- no rule set admits a bound with no terms or with more than eight
 pub unsized : (admits : Admits) (enough : Enough) → Laws admits enough → (kind k n : ℕ) → (n ≡ 0) ⊎ (8 < n) → admits kind k n ≡ false
-unsized admits enough laws kind k n out =
-    ⊎_elim
-    (λ (e : admits kind k n ≡ true). let w = laws.sized kind k n e in absurd (⊎_elim (λ (z : n ≡ 0). omega arith) (λ (z : 8 < n). omega arith) out))
-    (λ e. e)
-    (cases_Bool (admits kind k n))
+unsized admits enough laws kind k n out = let sized = laws.sized kind k n in grind arith
 
 -- bound
 module _ (admits : Admits) (s : PlainSheet) (b : BoundModel) where
-  abbrev room : Outcome CallFault
-  room = cond (ltb (length s.bounds) 256) (bounded s b) (refused s TooManyBounds)
-
   abbrev admitted : Bool
   admitted = admits b.kind b.k (length b.terms)
 
@@ -69,41 +57,36 @@ module _ (admits : Admits) (s : PlainSheet) (b : BoundModel) where
   fault = terms_fault (length s.names) b.terms
 
   pub not-admitted : admitted ≡ false → Gives (bound_call admits s b) (Err NotAdmitted) s
-  unfolding bound_call
-  not-admitted e = refuses (bound_call admits s b) s NotAdmitted (cond-true (not admitted) _ _ (not_from_false _ e))
-
-  past_rules : admitted ≡ true → bound_call admits s b ≡ cond (not (ltb b.to (length s.names))) (refused s NoSuchEvent) (unless s fault room)
-  unfolding bound_call
-  past_rules e = cond-false (not admitted) _ _ (not_from_true _ e)
+  unfolding bound_call refused
+  not-admitted e = rw e (record { answer = refl; sheet = refl })
 
   pub no_such_to : admitted ≡ true → length s.names ≤ b.to → Gives (bound_call admits s b) (Err NoSuchEvent) s
-  no_such_to e h = refuses _ s NoSuchEvent (past_rules e ∙ cond-true (not (ltb b.to (length s.names))) _ _ (not_from_false _ (le-ltb _ _ h)))
-
-  past_to : (f : Option CallFault) → admitted ≡ true → b.to < length s.names → f ≡ fault → bound_call admits s b ≡ unless s f room
-  past_to f e h t =
-      past_rules e ∙ cond-false (not (ltb b.to (length s.names))) _ _ (not_from_true _ (lt-ltb _ _ h)) ∙ ap (λ (g : Option CallFault). unless s g room) (sym t)
+  unfolding bound_call refused
+  no_such_to e h = rw (e, le-ltb b.to (length s.names) h) (record { answer = refl; sheet = refl })
 
   pub term_refused : (f : CallFault) → admitted ≡ true → b.to < length s.names → Some f ≡ fault → Gives (bound_call admits s b) (Err f) s
-  term_refused f e h t = refuses _ s f (past_to (Some f) e h t)
+  unfolding bound_call refused
+  term_refused f e h t = rw (e, lt-ltb b.to (length s.names) h, ← t) (record { answer = refl; sheet = refl })
 
   pub full_of_bounds : admitted ≡ true → b.to < length s.names → None ≡ fault → 256 ≤ length s.bounds → Gives (bound_call admits s b) (Err TooManyBounds) s
-  full_of_bounds e h t m = refuses _ s TooManyBounds (past_to None e h t ∙ cond-false (ltb (length s.bounds) 256) _ _ (le-ltb _ _ m))
+  unfolding bound_call refused
+  full_of_bounds e h t m = rw (e, lt-ltb b.to (length s.names) h, ← t, le-ltb (length s.bounds) 256 m) (record { answer = refl; sheet = refl })
 
   pub bound_added_lem : (r : ℕ) (after : PlainSheet) → admitted ≡ true → b.to < length s.names → None ≡ fault → length s.bounds < 256
       → length s.bounds ≡ r → after ≡ (bounded s b).after → Gives (bound_call admits s b) (Ok r) after
-  unfolding bounded
+  unfolding bound_call bounded
   bound_added_lem r after e h t m er ea =
-      changes _ (bounded s b) r after (past_to None e h t ∙ cond-true (ltb (length s.bounds) 256) _ _ (lt-ltb _ _ m)) (ap Ok er) ea
+      rw (e, lt-ltb b.to (length s.names) h, ← t, lt-ltb (length s.bounds) 256 m) (record { answer = ap Ok (sym er); sheet = ea })
 
 -- strike
 module _ (s : PlainSheet) (i : ℕ) where
   pub no_such_bound : length s.bounds ≤ i → Gives (strike_call s i) (Err NoSuchBound) s
-  unfolding strike_call
-  no_such_bound h = refuses (strike_call s i) s NoSuchBound (cond-false (ltb i (length s.bounds)) _ _ (le-ltb _ _ h))
+  unfolding strike_call refused
+  no_such_bound h = rw (le-ltb i (length s.bounds) h) (record { answer = refl; sheet = refl })
 
   pub bound_struck : (r : ℕ) (after : PlainSheet) → i < length s.bounds → length s.bounds - 1 ≡ r → after ≡ (struck s i).after → Gives (strike_call s i) (Ok r) after
   unfolding strike_call struck
-  bound_struck r after h er ea = changes _ (struck s i) r after (cond-true (ltb i (length s.bounds)) _ _ (lt-ltb _ _ h)) (ap Ok er) ea
+  bound_struck r after h er ea = rw (lt-ltb i (length s.bounds) h) (record { answer = ap Ok (sym er); sheet = ea })
 
 -- what the program holds after a change is the definition's sheet
 pub event_count : (ns : Vec Name Global) (bs : Vec Bound Global) → length (plain_of ns bs).names ≡ vec_len ns

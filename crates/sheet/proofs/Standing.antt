@@ -15,9 +15,6 @@ use Rattle.sheet.proofs.Numbering.{number_of_name as distinct-numbers}
 use Rattle.sheet.proofs.Outcomes.{event_count, bound_count}
 use Rattle.sheet.proofs.Terms.{terms_within}
 
-names_are : (ns : List Name) → AllByRecursion (λ (n : Name). is_name (spelled n) ≡ true) ns
-names_are ns = all_from_every (λ (n : Name). is_name (spelled n) ≡ true) ns (λ i d _ _. (get_or ns i d).named)
-
 module _ {R : Type 0} {G : Ghosts R} (d : Drawn R G) where
   pub few_events : length (sheet_of d).names ≤ 64
   few_events = omega (arith, event_count d.names d.bounds, d.few)
@@ -35,7 +32,9 @@ module _ {R : Type 0} {G : Ghosts R} (d : Drawn R G) where
 
   -- each name is a name
   pub all-names : AllByRecursion (λ (n : List ℕ). is_name n ≡ true) (sheet_of d).names
-  all-names = All-map (λ (n : List ℕ). is_name n ≡ true) spelled (vec_items d.names) (names_are (vec_items d.names))
+  all-names =
+      All-map (λ (n : List ℕ). is_name n ≡ true) spelled (vec_items d.names)
+      (all_from_every (λ (n : Name). is_name (spelled n) ≡ true) (vec_items d.names) (λ i e _ _. (get_or (vec_items d.names) i e).named))
 
   pub name_is : (i : ℕ) → i < length (sheet_of d).names → is_name (get_or (sheet_of d).names i []) ≡ true
   name_is i lt = All-get_or (λ (n : List ℕ). is_name n ≡ true) (sheet_of d).names i [] lt all-names

@@ -18,6 +18,7 @@ pub enum CallFault {
 
 impl CallFault {
     /// The number by which users know the fault.
+    // a match, not discriminants: a fault that holds a place tells its number so too
     pub fn number(self) -> u8
         ensures { result ≡ call_number self }
     {

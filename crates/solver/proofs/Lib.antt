@@ -3,6 +3,5 @@ pub mod Terms
 pub mod Turns
 pub mod Passes
 pub mod Lowering
-pub mod Levels
 pub mod Summits
 pub mod Flags

@@ -85,11 +85,3 @@ module _ {A : Admits} {E : Enough} (laws : Laws A E) (kind k : ℕ) (xs : List �
         | inl ok ↦ ok
         | inr out ↦ absurd (both_ways _ (laws.refused kind k (length xs) set out) is)
       ]
-
-  -- so many sums are admitted for no rule
-  pub too_many : (8 < length xs) → A kind k (length xs) ≡ false
-  too_many more =
-      elim (cases_Bool (A kind k (length xs))) [
-        | inr out ↦ out
-        | inl ok ↦ absurd (let s = (laws.sized kind k (length xs) ok).1 in omega arith)
-      ]

@@ -6,10 +6,6 @@ use Rattle.std.proofs.lemmas.Bool.{cases_eq, cases_lt}
 abbrev pub Seen : ℕ → ℕ → ℕ → ℕ → Type 0
 Seen n first step j = ((first ≤ j) × (j < first + step)) ⊎ (j + n < first + step)
 
-pub seen_none : (n first step j : ℕ) → first ≤ n → step ≡ 0 → Seen n first step j → ⊥
-seen_none n first step j h none (inl s) = let low = s.0 in let high = s.1 in omega arith
-seen_none n first step j h none (inr s) = omega arith
-
 pub seen_all : (n first step j : ℕ) → j < n → n ≤ step → Seen n first step j
 seen_all n first step j h e =
     elim (cases_lt j first) [

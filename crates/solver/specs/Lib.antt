@@ -1,3 +1,4 @@
 pub mod Permitted
 pub mod Tasks
+pub mod Asked
 pub mod Solutions

@@ -14,11 +14,13 @@ pub fn latest<R: RuleSet>(rules: &R, kind: u8, k: u8, sums: &[i64]) -> Option<i6
     if sums.len() > MAX_TERMS {
         return None;
     }
+    // a cast, proved to fit
     let count = sums.len() as u8;
     if !rules.admits(kind, k, count) {
         return None;
     }
-    let mut best = least(sums);
+    let mut best = least(sums)?;
+    // a loop, not a filter and a maximum: the rules are asked only about a sum later than the best so far
     for sum in sums {
         if *sum > best && rules.enough(kind, k, count, reached(sums, *sum)) {
             best = *sum;
@@ -28,16 +30,10 @@ pub fn latest<R: RuleSet>(rules: &R, kind: u8, k: u8, sums: &[i64]) -> Option<i6
 }
 
 /// The least of some sums.
-fn least(sums: &[i64]) -> i64
-    ensures { (j : ℕ) → j < length sums.now → result ≤ℤ slice_index_or sums.now j (pos 0) }
+fn least(sums: &[i64]) -> Option<i64>
+    ensures { MatchOption result (length sums.now ≡ 0) (λ low. (j : ℕ) → j < length sums.now → low ≤ℤ slice_index_or sums.now j (pos 0)) }
 {
-    let mut low = i64::MAX;
-    for sum in sums {
-        if *sum < low {
-            low = *sum;
-        }
-    }
-    low
+    sums.iter().copied().min()
 }
 
 /// The terms whose sum is not before a time.
@@ -45,6 +41,7 @@ fn reached(sums: &[i64], time: i64) -> u8
     requires { length sums.now ≤ 8 }
     ensures { result ≡ reaching time sums.now }
 {
+    // bit by bit: the library makes no mask of a test
     let mut set = 0u8;
     for (i, sum) in sums.iter().enumerate() {
         if *sum >= time {

@@ -8,3 +8,4 @@ pub mod latest;
 pub mod limits;
 mod rise;
 pub mod solve;
+pub mod task;

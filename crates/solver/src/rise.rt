@@ -1,19 +1,20 @@
 //! The rise: timetables from under, phase by phase, until a phase lifts nothing.
-ghost use Rattle.std.specs.Prelude.{◌≡◌, ℕ, ◌+◌, ◌<◌, ◌≤◌, true, false, ◌⊎◌, map, length, ℤ, pos, ◌+ℤ◌, ◌≤ℤ◌, ◌<ℤ◌, MatchOption};
-ghost use Rattle.timing.specs.Bounds.{term_of, bound_of};
-ghost use Rattle.timing.specs.Limits.{delay_limit};
-ghost use Rattle.timing.specs.Model.{IsSheet};
+ghost use Rattle.std.specs.Prelude.{◌≡◌, ℕ, ◌+◌, ◌<◌, ◌≤◌, true, false, ◌⊎◌, ℤ, pos, ◌+ℤ◌, ◌≤ℤ◌, ◌<ℤ◌, MatchOption};
+ghost use Rattle.timing.specs.Bounds.{term_of};
 ghost use Rattle.timing.specs.Timetables.{times, Contradictory};
 ghost use Rattle.timing.specs.Rise.{phase_sum, Rising, Summit};
-ghost use Rattle.solver.specs.Tasks.{Level, PhaseOver, Summable, task_of, taking_part};
+ghost use Rattle.solver.specs.Asked.{asked};
+ghost use Rattle.solver.specs.Tasks.{Level, PhaseOver, Summable};
 
 use crate::latest::latest;
-use crate::limits::{FAR_MARK, LOW_MARK, MAX_BOUNDS, MAX_EVENTS};
+use crate::limits::{FAR_MARK, LOW_MARK, MAX_EVENTS};
+use crate::task::Task;
 use rules::RuleSet;
+use timing::bound::Term;
 use timing::bound::methods::MAX_TERMS;
-use timing::bound::{Bound, Term};
 
 /// FROM's time plus the delay.
+// a requires, not a type: that the sum can be formed is a fact of a timetable and a term together
 pub(crate) fn term_sum(timetable: &[i64; MAX_EVENTS], term: &Term) -> i64
     requires { Summable timetable.now (term_of term.now) }
     ensures { result ≡ times timetable.now term.now.from +ℤ term.now.delay }
@@ -42,15 +43,13 @@ fn level(events: usize, source: usize, time: i64) -> [i64; MAX_EVENTS]
     ensures { Level events source time result }
 {
     let mut timetable = [0; MAX_EVENTS];
-    for e in 0..events {
-        if e != source {
-            timetable[e] = time;
-        }
-    }
+    timetable[..events].fill(time);
+    timetable[source] = 0;
     timetable
 }
 
 /// The number that stands `step` places after `first`, going round below `n`.
+// steps, not a chain of the ranges from `first` and up to it: the chain makes most example sheets a third slower
 fn turn(n: usize, first: usize, step: usize) -> usize
     requires first { first ≤ n }
     requires step { step < n }
@@ -64,99 +63,87 @@ fn turn(n: usize, first: usize, step: usize) -> usize
     }
 }
 
-/// One phase: every event at the far mark, then lowered for as long as a bound asks for less; None where the rules
-/// refuse a bound.
-///
-/// A bound asks for less when the terms whose sums are not before TO's time are not enough. The bounds are gone through
-/// round and round: after a lowering the next bound comes, and the phase is over after a whole quiet round.
-fn phase<R: RuleSet>(
-    rules: &R,
-    bounds: &[Bound],
-    chosen: &[bool; MAX_BOUNDS],
-    events: usize,
-    source: usize,
-    x: &[i64; MAX_EVENTS],
-) -> Option<[i64; MAX_EVENTS]>
-    requires sheet { IsSheet 64 delay_limit events (map bound_of bounds.now) }
-    requires count { length bounds.now ≤ 256 }
-    requires inside { source < events }
-    requires rising { Rising (task_of (R.RuleSet.suffices rules.now) chosen.now bounds.now events source) (times x.now) }
-    ensures { MatchOption result (Contradictory (R.RuleSet.suffices rules.now) (taking_part chosen.now bounds.now)) (PhaseOver (task_of (R.RuleSet.suffices rules.now) chosen.now bounds.now events source) x.now) }
-{
-    let mut y = level(events, source, FAR_MARK);
-    let mut first = 0;
-    'rounds: loop {
-        'bounds: for step in 0..bounds.len() {
-            let i = turn(bounds.len(), first, step);
-            let takes_part = chosen[i];
-            if !takes_part {
-                continue 'bounds;
-            }
-            let b = &bounds[i];
-            let to = b.to();
-            let kind = b.kind();
-            let k = b.k();
-            let terms = b.terms();
-            let count = terms.len() as u8;
-            let mut sums = [0; MAX_TERMS];
-            let mut set = 0u8;
-            for (j, term) in terms.iter().enumerate() {
-                let sum = phase_sum(x, &y, to, term);
-                sums[j] = sum;
-                if y[to] <= sum {
-                    set |= 1 << j;
-                    if rules.enough(kind, k, count, set) {
-                        continue 'bounds;
-                    }
-                }
-            }
-            let Some(time) = latest(rules, kind, k, &sums[..terms.len()]) else {
-                break 'rounds None;
-            };
-            y[to] = time;
-            first = i + 1;
-            continue 'rounds;
-        }
-        break 'rounds Some(y);
-    }
-}
-
 /// Is some event later in y than in x?
 fn rose(x: &[i64; MAX_EVENTS], y: &[i64; MAX_EVENTS], events: usize) -> bool
     requires { events ≤ 64 }
     ensures some { result ≡ true → (e : ℕ) × (e < events) × (times x.now e <ℤ times y.now e) }
     ensures none { result ≡ false → (e : ℕ) → e < events → times y.now e ≤ℤ times x.now e }
 {
-    for e in 0..events {
-        if x[e] < y[e] {
-            return true;
-        }
-    }
-    false
+    x[..events]
+        .iter()
+        .zip(y)
+        .any(|(before, after)| before < after)
 }
 
-/// Rises from phase to phase until one lifts nothing; None where the rules refuse a bound.
-///
-/// Every event starts as low as any need lie. What a phase ends with is the start of the next; it never puts an event
-/// lower. Where the rise ends, no timetable that keeps the bounds, with the source at 0, puts an event later.
-pub(crate) fn rise<R: RuleSet>(
-    rules: &R,
-    bounds: &[Bound],
-    chosen: &[bool; MAX_BOUNDS],
-    events: usize,
-    source: usize,
-) -> Option<[i64; MAX_EVENTS]>
-    requires sheet { IsSheet 64 delay_limit events (map bound_of bounds.now) }
-    requires count { length bounds.now ≤ 256 }
-    requires inside { source < events }
-    ensures { MatchOption result (Contradictory (R.RuleSet.suffices rules.now) (taking_part chosen.now bounds.now)) (λ x. Summit (task_of (R.RuleSet.suffices rules.now) chosen.now bounds.now events source) (times x)) }
-{
-    let mut x = level(events, source, LOW_MARK);
-    loop {
-        let y = phase(rules, bounds, chosen, events, source, &x)?;
-        if !rose(&x, &y, events) {
-            return Some(x);
+impl<'a, R: RuleSet> Task<'a, R> {
+    /// Rises from phase to phase until one lifts nothing; None where the rules refuse a bound.
+    ///
+    /// Every event starts as low as any need lie. What a phase ends with is the start of the next; it never puts an event
+    /// lower. Where the rise ends, no timetable that keeps the bounds, with the source at 0, puts an event later.
+    pub(crate) fn rise(&self) -> Option<[i64; MAX_EVENTS]>
+        ensures { let task = asked self.now in MatchOption result (Contradictory task.meaning task.bounds) (λ x. Summit task (times x)) }
+    {
+        let mut x = level(self.sheet.events, self.source, LOW_MARK);
+        loop {
+            let y = self.phase(&x)?;
+            if !rose(&x, &y, self.sheet.events) {
+                return Some(x);
+            }
+            x = y;
         }
-        x = y;
+    }
+
+    /// One phase: every event at the far mark, then lowered for as long as a bound asks for less; None where the rules
+    /// refuse a bound.
+    ///
+    /// A bound asks for less when the terms whose sums are not before TO's time are not enough. The bounds are gone
+    /// through round and round: after a lowering the next bound comes, and the phase is over after a whole quiet round.
+    fn phase(&self, x: &[i64; MAX_EVENTS]) -> Option<[i64; MAX_EVENTS]>
+        requires { Rising (asked self.now) (times x.now) }
+        ensures { let task = asked self.now in MatchOption result (Contradictory task.meaning task.bounds) (PhaseOver task x.now) }
+    {
+        let rules = self.sheet.rules;
+        let bounds = self.sheet.bounds;
+        let chosen = self.chosen;
+        let mut y = level(self.sheet.events, self.source, FAR_MARK);
+        let mut first = 0;
+        // loops with labels: a bound is left as soon as its terms are enough, and a round as soon as a bound lowers
+        'rounds: loop {
+            'bounds: for step in 0..bounds.len() {
+                let i = turn(bounds.len(), first, step);
+                let takes_part = chosen[i];
+                if !takes_part {
+                    continue 'bounds;
+                }
+                let b = &bounds[i];
+                let to = b.to();
+                let kind = b.kind();
+                let k = b.k();
+                let terms = b.terms();
+                // a cast, proved to fit: try_from would add an error that cannot come
+                let count = terms.len() as u8;
+                // an array, not an ArrayVec: keeping count of the sums makes the example sheets a fifth slower
+                let mut sums = [0; MAX_TERMS];
+                let mut set = 0u8;
+                for (j, term) in terms.iter().enumerate() {
+                    let sum = phase_sum(x, &y, to, term);
+                    sums[j] = sum;
+                    if y[to] <= sum {
+                        set |= 1 << j;
+                        if rules.enough(kind, k, count, set) {
+                            continue 'bounds;
+                        }
+                    }
+                }
+                // the rounds are left by their label, and not by `?`
+                let Some(time) = latest(rules, kind, k, &sums[..terms.len()]) else {
+                    break 'rounds None;
+                };
+                y[to] = time;
+                first = i + 1;
+                continue 'rounds;
+            }
+            break 'rounds Some(y);
+        }
     }
 }

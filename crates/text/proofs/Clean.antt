@@ -1,21 +1,12 @@
 -- The checks find no fault exactly in a text whose every byte may stand there.
-use Rattle.std.proofs.Common.{◌≡◌, ℕ, ◌+◌, ◌≤◌, Bool, true, false, ◌&&◌, ◌||◌, eqb, ltb, List, [], ◌∷◌, length, Ok, Err, Result, sym, refl, ap, ◌∙◌, ⊎_elim, arith}
-use Rattle.std.proofs.lemmas.Bool.{cond-true, cond-false, cases_Bool, and_from, and_parts, ltb-false, le-ltb}
-use Rattle.text.specs.declared.fault.TextFault.{TextFault}
-use Rattle.text.specs.declared.fault.TextFault.TheVariants.{TooLong}
-use Rattle.text.specs.Checks.{allowed, each, finished, text_byte, whole_text, lines_bytes, text_fault, and_then, FaultExactly}
+use Rattle.std.proofs.Common.{◌≡◌, ℕ, ◌+◌, ◌≤◌, Bool, true, false, ◌&&◌, eqb, ltb, List, [], ◌∷◌, length, Ok, sym, refl, ap, ◌∙◌, ⊎_elim, arith}
+use Rattle.std.proofs.Math.Bool.{and_assoc}
+use Rattle.std.proofs.lemmas.Bool.{cases_Bool, and_from, and_parts, ltb-false, le-ltb}
+use Rattle.text.specs.Checks.{allowed, each, finished, text_byte, lines_bytes, text_fault, FaultExactly}
 use Rattle.text.specs.Split.{onto, lines_of}
 
-and_assoc : (a b c : Bool) → ((a && b) && c) ≡ (a && (b && c))
-and_assoc true b c = refl
-and_assoc false b c = refl
-
-and_true : (a : Bool) → ((a && true) && true) ≡ (a && true)
-and_true true = refl
-and_true false = refl
-
 onto-allowed : (x : ℕ) (ls : List (List ℕ)) → each (each allowed) (onto x ls) ≡ (allowed x && each (each allowed) ls)
-onto-allowed x [] = and_true (allowed x)
+onto-allowed x [] = and_assoc (allowed x) true true
 onto-allowed x (l ∷ ls) = and_assoc (allowed x) (each allowed l) (each (each allowed) ls)
 
 -- the bytes of the lines are those of the text without its ends
@@ -23,48 +14,39 @@ lines_allowed : (xs : List ℕ) → each (each allowed) (lines_of xs) ≡ each t
 lines_allowed [] = refl
 lines_allowed (x ∷ xs) =
     ⊎_elim
-    (λ (yes : eqb x 10 ≡ true).
-    ap (each (each allowed)) (cond-true _ _ _ yes) ∙ lines_allowed xs ∙ sym (ap (λ (b : Bool). (b || allowed x) && each text_byte xs) yes))
-    (λ (no : eqb x 10 ≡ false).
-    ap (each (each allowed)) (cond-false _ _ _ no) ∙ onto-allowed x (lines_of xs) ∙ ap (λ (b : Bool). allowed x && b) (lines_allowed xs)
-    ∙ sym (ap (λ (b : Bool). (b || allowed x) && each text_byte xs) no))
+    (λ (yes : eqb x 10 ≡ true). rw yes (lines_allowed xs))
+    (λ (no : eqb x 10 ≡ false). rw no (onto-allowed x (lines_of xs) ∙ ap (λ (b : Bool). allowed x && b) (lines_allowed xs)))
     (cases_Bool (eqb x 10))
 
 lines_ok : (n : ℕ) (ls : List (List ℕ)) → each (each allowed) ls ≡ true → lines_bytes n ls ≡ Ok tt
 lines_ok n [] h = refl
 lines_ok n (l ∷ ls) h =
     let p = and_parts (each allowed l) (each (each allowed) ls) h in
-    ap (λ (r : Result (Unit {0}) TextFault). and_then r (λ _. lines_bytes (n + 1) ls)) (cond-true _ _ _ p.0) ∙ lines_ok (n + 1) ls p.1
+    rw p.0 (lines_ok (n + 1) ls p.1)
 
 ok_lines : (n : ℕ) (ls : List (List ℕ)) → lines_bytes n ls ≡ Ok tt → each (each allowed) ls ≡ true
 ok_lines n [] h = refl
 ok_lines n (l ∷ ls) h =
     ⊎_elim
-    (λ (yes : each allowed l ≡ true).
-    and_from _ _ yes (ok_lines (n + 1) ls (sym (ap (λ (r : Result (Unit {0}) TextFault). and_then r (λ _. lines_bytes (n + 1) ls)) (cond-true _ _ _ yes)) ∙ h)))
-    (λ (no : each allowed l ≡ false).
-    let bad = sym (ap (λ (r : Result (Unit {0}) TextFault). and_then r (λ _. lines_bytes (n + 1) ls)) (cond-false _ _ _ no)) ∙ h in absurd (grind arith))
+    (λ (yes : each allowed l ≡ true). and_from _ _ yes (ok_lines (n + 1) ls (rw yes at h)))
+    (λ (no : each allowed l ≡ false). let bad = rw no at h in absurd (grind arith))
     (cases_Bool (each allowed l))
 
 -- the rest of the checks, where the text as a whole passes
 rest_of : (text : List ℕ) → length text ≤ 65536 → finished text ≡ true → text_fault text ≡ lines_bytes 1 (lines_of text)
 rest_of text short end =
-    ap (λ (r : Result (Unit {0}) TextFault). and_then r (λ _. lines_bytes 1 (lines_of text)))
-    (cond-false _ _ _ (le-ltb 65536 (length text) short) ∙ cond-true _ _ _ end)
+    rw (le-ltb 65536 (length text) short, end) refl
 
 whole_ok : (text : List ℕ) → text_fault text ≡ Ok tt → (length text ≤ 65536) × (finished text ≡ true)
 whole_ok text h =
     ⊎_elim
-    (λ (long : ltb 65536 (length text) ≡ true). absurd (never TooLong (cond-true _ _ _ long)))
+    (λ (long : ltb 65536 (length text) ≡ true). let bad = rw long at h in absurd (grind arith))
     (λ (short : ltb 65536 (length text) ≡ false).
     ⊎_elim
     (λ (end : finished text ≡ true). (ltb-false 65536 (length text) short, end))
-    (λ (open' : finished text ≡ false). absurd (never _ (cond-false _ _ _ short ∙ cond-false _ _ _ open')))
+    (λ (open' : finished text ≡ false). let bad = rw (short, open') at h in absurd (grind arith))
     (cases_Bool (finished text)))
     (cases_Bool (ltb 65536 (length text)))
-  where
-    never : (f : TextFault) → whole_text text ≡ Err f → ⊥
-    never f e = let bad = sym (ap (λ (r : Result (Unit {0}) TextFault). and_then r (λ _. lines_bytes 1 (lines_of text))) e) ∙ h in grind arith
 
 pub clean_exactly : (text : List ℕ) → FaultExactly text (text_fault text)
 clean_exactly text = (

@@ -1,4 +1,3 @@
-pub mod Each
 pub mod Splits
 pub mod Lossless
 pub mod Clean

@@ -1,11 +1,10 @@
 -- A number as it is written, and that reading it gives it back.
-use Rattle.std.proofs.Common.{◌≡◌, ℕ, zero, suc, ◌+◌, ◌/◌, ◌%◌, ◌^◌, ◌<◌, ◌≤◌, true, false, not, ◌&&◌, ◌||◌, eqb, ltb, ◌⊎◌, List, [], ◌∷◌, length, get_or, drop, ℤ, pos, negsuc, nat_abs, ◌≤ℤ◌, Some, None, Ok, Err, decimal, Option, Result, sym, refl, ap, ◌∙◌, inl, inr, ⊎_elim, arith, w32, SFits, rules}
+use Rattle.std.proofs.Common.{◌≡◌, ℕ, zero, suc, ◌^◌, ◌<◌, ◌≤◌, true, false, not, ◌&&◌, ◌||◌, eqb, ltb, ◌⊎◌, List, [], ◌∷◌, length, get_or, drop, ℤ, pos, negsuc, ◌≤ℤ◌, Some, None, Ok, Err, decimal, Option, Result, sym, refl, ap, ◌∙◌, inl, inr, ⊎_elim, arith, w32, SFits, rules}
 use lib.Signed.{mag, le_z}
 use Rattle.std.specs.Option.{option_map}
 use Rattle.std.specs.Char.{is_ascii_digit}
 use Rattle.std.specs.Fmt.{signed_decimal}
-use Rattle.std.proofs.lemmas.Fmt.{decimal_step, decimal_nonempty, first_decimal, length-decimal-le, digits_decimal, digits_value-decimal, decimal-digits_value, length_signed_le}
-use Rattle.std.proofs.lemmas.List.{length_push}
+use Rattle.std.proofs.lemmas.Fmt.{decimal_nonempty, first_decimal, length-decimal-le, digits_decimal, digits_value-decimal, decimal-digits_value}
 use Rattle.std.proofs.lemmas.Str.Parse.{IsNumeralModel, numerals_by_fold, not_in_digits}
 use Rattle.std.proofs.lemmas.Int.{ints}
 use Rattle.std.proofs.lemmas.Bool.{cond-true, cond-false, and_from, and_parts, eqb-true, ne_eqb, cases_lt, cases_Bool}
@@ -15,9 +14,6 @@ use Rattle.text.specs.declared.numeral.NumeralFault.{NumeralFault}
 use Rattle.text.specs.declared.numeral.NumeralFault.TheVariants.{OutOfRange}
 use Rattle.text.specs.Numerals.{read_on, is_natural, natural, negative, numeral, ranged, JustWritten}
 use Rattle.text.proofs.Numerals.{in_range}
-
-pub length_decimal_step : (n : ℕ) → 10 ≤ n → n < 2 ^ 64 → length (decimal n) ≡ length (decimal (n / 10)) + 1
-length_decimal_step n le small = ap length (decimal_step n le small) ∙ length_push (decimal (n / 10)) (48 + n % 10)
 
 -- our words for digits and their value are those of the library
 own : IsNumeralModel (λ ds. each is_ascii_digit ds ≡ true) (read_on 0)
@@ -56,7 +52,7 @@ no_minus n small =
 
 -- reading what was written gives the number
 pub numeral_decimal : (n : ℕ) → n < 2 ^ 64 → numeral (decimal n) ≡ Some (pos n)
-numeral_decimal n small = cond-false (eqb (get_or (decimal n) 0 0) 45) _ _ (no_minus n small) ∙ ap (option_map pos) (natural_decimal n small)
+numeral_decimal n small = rw (no_minus n small) (ap (option_map pos) (natural_decimal n small))
 
 pub numeral_signed : (z : ℤ) → mag z < 2 ^ 63 → numeral (signed_decimal z) ≡ Some z
 numeral_signed (pos n) small = numeral_decimal n (omega arith)
@@ -85,25 +81,9 @@ after_minus (b ∷ ds) z small h e = signed_from (b ∷ ds) ds z small (ap (λ (
 pub numeral-only : (bs : List ℕ) (z : ℤ) → mag z < 2 ^ 63 → numeral bs ≡ Some z → bs ≡ signed_decimal z
 numeral-only bs z small e =
     ⊎_elim
-    (λ (minus : eqb (get_or bs 0 0) 45 ≡ true).
-    after_minus bs z small (eqb-true (get_or bs 0 0) 45 minus) (sym (cond-true _ _ _ minus) ∙ e))
-    (λ (none : eqb (get_or bs 0 0) 45 ≡ false). no_sign bs z small (natural bs) refl (sym (cond-false _ _ _ none) ∙ e))
+    (λ (minus : eqb (get_or bs 0 0) 45 ≡ true). after_minus bs z small (eqb-true (get_or bs 0 0) 45 minus) (rw minus at e))
+    (λ (none : eqb (get_or bs 0 0) 45 ≡ false). no_sign bs z small (natural bs) refl (rw none at e))
     (cases_Bool (eqb (get_or bs 0 0) 45))
-
--- a number by its sign and size
-pub signed_plain : (z : ℤ) → le_z (pos 0) z ≡ true → signed_decimal z ≡ decimal (nat_abs z)
-signed_plain (pos n) h = refl
-signed_plain (negsuc n) h = absurd (grind (arith, ints))
-
-pub signed_minus : (z : ℤ) → le_z (pos 0) z ≡ false → signed_decimal z ≡ 45 ∷ decimal (nat_abs z)
-signed_minus (pos n) h = absurd (grind (arith, ints))
-signed_minus (negsuc n) h = refl
-
-pub length_decimal : (n : ℕ) → n < 2 ^ 64 → length (decimal n) ≤ 20
-length_decimal n small = length-decimal-le 20 n (omega arith) (omega arith) small
-
-pub length_signed : (z : ℤ) → mag z < 2 ^ 63 → length (signed_decimal z) ≤ 20
-length_signed z small = length_signed_le 19 z (omega arith) small
 
 -- what a range lets through lies in it
 ranged_ok : (least most z : ℤ) (o : Option ℤ) → ranged least most o ≡ Ok z → (o ≡ Some z) × (least ≤ℤ z) × (z ≤ℤ most)

@@ -1,5 +1,6 @@
 -- Which fault the bytes of a text have, if any.
 use Rattle.std.specs.Prelude.{◌≡◌, ℕ, ◌+◌, ◌-◌, ◌≤◌, Bool, true, cond, ◌&&◌, ◌||◌, List, [], ◌∷◌, length, Ok, Err, Result, ◌==◌, nat_le, nat_lt, slice_index}
+use Rattle.std.specs.List.{list_all}
 use Rattle.text.specs.declared.fault.TextFault.{TextFault}
 use Rattle.text.specs.declared.fault.TextFault.TheVariants.{TooLong, Unfinished, BadByte}
 use Rattle.text.specs.Split.{parted_by, lines_of}
@@ -11,8 +12,7 @@ and_then (Err e) f = Err e
 
 -- the test holds of each element
 abbrev pub each : {X : Type 0} → (X → Bool) → List X → Bool
-each p [] = true
-each p (x ∷ xs) = p x && each p xs
+each p xs = list_all p xs
 
 -- a byte that may stand in a line: a tab, or 32 to 126
 abbrev pub allowed : ℕ → Bool

@@ -5,3 +5,4 @@ pub mod Reading
 pub mod Names
 pub mod Spelled
 pub mod Numerals
+pub mod Copies

@@ -1,5 +1,6 @@
 -- Numerals: 0, or an optional minus and digits without a leading zero.
-use Rattle.std.specs.Prelude.{◌≡◌, ℕ, zero, suc, ◌+◌, ◌-◌, ◌*◌, min, Bool, cond, not, ◌&&◌, ◌||◌, List, [], ◌∷◌, length, drop, ℤ, pos, negsuc, ◌≤ℤ◌, Some, None, Ok, Err, Option, Result, ◌==◌, int_le, nat_lt, slice_index}
+use Rattle.std.specs.Prelude.{◌≡◌, ℕ, zero, suc, ◌+◌, ◌-◌, ◌*◌, min, Bool, cond, not, ◌&&◌, ◌||◌, List, length, drop, ℤ, pos, negsuc, ◌≤ℤ◌, Some, None, Ok, Err, Option, Result, ◌==◌, int_le, nat_lt, slice_index}
+use Rattle.std.specs.List.{fold}
 use Rattle.std.specs.Option.{option_map}
 use Rattle.std.specs.Char.{is_ascii_digit}
 use Rattle.std.specs.Fmt.{signed_decimal}
@@ -9,8 +10,7 @@ use Rattle.text.specs.declared.numeral.NumeralFault.TheVariants.{Malformed, OutO
 
 -- the number that digits write, after those of n
 abbrev pub read_on : ℕ → List ℕ → ℕ
-read_on n [] = n
-read_on n (d ∷ ds) = read_on (n * 10 + (d - 48)) ds
+read_on n ds = fold (λ m d. m * 10 + (d - 48)) n ds
 
 -- digits, at least one, and more than one only if the first is not 0
 abbrev pub is_natural : List ℕ → Bool

@@ -13,10 +13,7 @@ pub const MAX_BYTES: usize = 65_536;
 fn is_finished(text: &[u8]) -> bool
     ensures { result ≡ finished text.now }
 {
-    match text.last() {
-        Some(b) => *b == NEWLINE,
-        None => true,
-    }
+    text.last().is_none_or(|b| *b == NEWLINE)
 }
 
 /// Fault 1 or 2 where the text as a whole has one: too many bytes, or a last line without its end.
@@ -38,8 +35,7 @@ pub fn check_whole(text: &[u8]) -> Result<(), TextFault>
 fn check_lines(text: &[u8]) -> Result<(), TextFault>
     ensures { result ≡ lines_bytes 1 (lines_of text.now) }
 {
-    let mut reader = Reader::new(text);
-    while let Some(line) = reader.next_line() {
+    for line in Reader::new(text) {
         line.check_bytes()?;
     }
     Ok(())

@@ -1,9 +1,9 @@
 //! What can be wrong with the bytes of a text, and how a fault tells its number, layer and place.
 ghost use Rattle.std.specs.Prelude.{◌≡◌};
-ghost use Rattle.text.specs.Faults.{layer_of, text_number, text_place};
+ghost use Rattle.text.specs.Faults.{layer_of, on_line, text_number, text_place};
 
 /// The part of the product that finds a fault.
-#[derive(Clone, Copy, PartialEq, Eq)]
+#[derive(Clone, Copy, Debug, PartialEq, Eq)]
 pub enum Layer {
     Text,
     Record,
@@ -11,14 +11,24 @@ pub enum Layer {
 }
 
 /// A place in a text: line and field, each counted from 1; 0 where a fault names none.
-#[derive(Clone, Copy, PartialEq, Eq)]
+// 0, not None: both numbers are printed, and handed to C, as they stand
+#[derive(Clone, Copy, Debug, PartialEq, Eq)]
 pub struct Place {
     pub line: usize,
     pub field: usize,
 }
 
+impl Place {
+    /// The place of a fault that names a line and no field.
+    pub fn on_line(line: usize) -> Place
+        ensures { result ≡ on_line line }
+    {
+        Place { line, field: 0 }
+    }
+}
+
 /// What can be wrong with the bytes of a text.
-#[derive(Clone, Copy, PartialEq, Eq)]
+#[derive(Clone, Copy, Debug, PartialEq, Eq)]
 pub enum TextFault {
     /// more than 65,536 bytes
     TooLong,
@@ -28,6 +38,7 @@ pub enum TextFault {
     BadByte { line: usize },
 }
 
+// number, layer and place are methods of each fault, not of a trait: nothing takes a fault of any type
 impl TextFault {
     /// The number by which users know the fault.
     pub fn number(self) -> u8
@@ -52,9 +63,8 @@ impl TextFault {
     {
         let line = match self {
             TextFault::TooLong => 0,
-            TextFault::Unfinished { line } => line,
-            TextFault::BadByte { line } => line,
+            TextFault::Unfinished { line } | TextFault::BadByte { line } => line,
         };
-        Place { line, field: 0 }
+        Place::on_line(line)
     }
 }

@@ -2,9 +2,11 @@
 #![tactic(auto)]
 
 pub mod checks;
+pub mod copy;
 pub mod fault;
 pub mod lines;
 pub mod name;
 pub mod numeral;
 pub mod reader;
+mod short;
 pub mod written;

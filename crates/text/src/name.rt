@@ -1,14 +1,14 @@
-ghost use Rattle.std.specs.Prelude.{◌≡◌, ◌≤◌, true, length, take};
+ghost use Rattle.std.specs.Prelude.{◌≡◌, true, take};
 ghost use Rattle.text.specs.Names.{is_name};
+
+use crate::name::methods::MAX_LEN;
+use crate::short::Short;
 
 pub mod methods;
 
-/// The name of an event: 1 to 12 of the bytes A-Z, a-z, 0-9 and _, the first `len` of `bytes`.
+/// The name of an event: 1 to 12 of the bytes A-Z, a-z, 0-9 and _.
 #[derive(Clone, Copy)]
 pub struct Name {
-    bytes: [u8; 12],
-    len: usize,
-    ghost room: { length bytes ≡ 12 },
-    ghost short: { len ≤ 12 },
-    ghost named: { is_name (take len bytes) ≡ true },
+    bytes: Short<MAX_LEN>,
+    ghost named: { is_name (take bytes.len bytes.bytes) ≡ true },
 }

@@ -10,4 +10,3 @@ pub mod KnotCertificates
 pub mod WorkedSheets
 pub mod Rise
 pub mod Room
-pub mod Narrow

@@ -5,5 +5,6 @@
 #![tactic(auto)]
 
 pub mod bound;
+pub mod limits;
 pub mod theorems;
 pub mod worked;

@@ -3,6 +3,7 @@
 ghost use Rattle.timing.specs.Worked.{AllRight, worked};
 
 /// What a worked sheet comes to.
+// an enum of its own, not a Result: a knot is as right an answer as places are, and the rows say which
 #[derive(Clone, Copy)]
 pub enum WorkedAnswer {
     /// The places of its events in order, 0 past the last; one above 63,000,000 is open.

@@ -14,4 +14,6 @@ mod rule_sets;
 #[cfg(test)]
 mod settling;
 #[cfg(test)]
+mod shared;
+#[cfg(test)]
 mod texts;

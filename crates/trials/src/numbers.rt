@@ -61,10 +61,7 @@ fn numbers_are_written(rt: HostRuntime) {
 
 // A name that is taken is written as it was read.
 fn is_name(written: &[u8]) -> bool {
-    match Name::new(written) {
-        Some(name) => name.is(written) && name.as_bytes() == written,
-        None => false,
-    }
+    Name::new(written).is_some_and(|name| name.is(written) && name.as_bytes() == written)
 }
 
 #[test]

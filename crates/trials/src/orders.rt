@@ -1,8 +1,8 @@
 // Texts with more than one fault: the first in the order of checks is told. Then the limits of a sheet, reached by lines,
 // and what a load leaves behind.
+use crate::shared::prints;
 use records::entry::Need;
 use records::load::load;
-use report::report;
 use rules::Vote;
 use sheet::drawn::Drawn;
 use std::alloc::{AllocError, Global};
@@ -51,16 +51,10 @@ const IN_ORDER: [Printed; 14] = [
     ),
 ];
 
-fn prints(rt: &impl Abort, heap: Global, text: &[u8], expected: &[u8]) -> Result<(), Fail> {
-    let out = report(heap, text)?;
-    assert!(rt; out.as_slice() == expected);
-    Ok(())
-}
-
 #[test]
 fn first_fault_in_order(rt: HostRuntime) -> Result<(), Fail> {
     for (text, expected) in IN_ORDER {
-        prints(&rt, rt.alloc(), text, expected)?;
+        prints(&rt, text, expected)?;
     }
     Ok(())
 }
@@ -78,84 +72,58 @@ fn lines(heap: Global, first: &[u8], line: &[u8], times: usize) -> Result<Vec<u8
 fn events(heap: Global, count: u8) -> Result<Vec<u8>, AllocError> {
     let mut text = Vec::new(heap);
     for i in 0..count {
-        text.extend_from_slice(&[
-            b'e',
-            b'v',
-            b'e',
-            b'n',
-            b't',
-            b'\t',
-            b'0' + i / 10,
-            b'0' + i % 10,
-            b'\n',
-        ])?;
+        text.extend_from_slice(b"event\t")?;
+        text.extend_from_slice(&[b'0' + i / 10, b'0' + i % 10, b'\n'])?;
     }
     Ok(text)
 }
 
 // What is printed for a text with one line more.
 fn prints_after(
-    rt: &impl Abort,
-    heap: Global,
+    rt: &(impl Abort + AllocGlobal),
     text: &[u8],
     line: &[u8],
     expected: &[u8],
 ) -> Result<(), Fail> {
-    let mut longer = Vec::from_slice(heap, text)?;
+    let mut longer = Vec::from_slice(rt.alloc(), text)?;
     longer.extend_from_slice(line)?;
-    prints(rt, heap, longer.as_slice(), expected)
+    prints(rt, longer.as_slice(), expected)
 }
 
 #[test]
 fn sixty_four_events_by_lines(rt: HostRuntime) -> Result<(), Fail> {
     let heap = rt.alloc();
     let text = events(heap, 64)?;
-    prints(&rt, heap, text.as_slice(), b"")?;
+    prints(&rt, text.as_slice(), b"")?;
     prints_after(
         &rt,
-        heap,
         text.as_slice(),
         b"event\tmore\n",
         b"fault\t11\t65\t0\n",
     )?;
-    prints_after(
-        &rt,
-        heap,
-        text.as_slice(),
-        b"event\t00\n",
-        b"fault\t9\t65\t2\n",
-    )?;
-    prints_after(
-        &rt,
-        heap,
-        text.as_slice(),
-        b"event\t\n",
-        b"fault\t6\t65\t2\n",
-    )
+    prints_after(&rt, text.as_slice(), b"event\t00\n", b"fault\t9\t65\t2\n")?;
+    prints_after(&rt, text.as_slice(), b"event\t\n", b"fault\t6\t65\t2\n")
 }
 
 #[test]
 fn two_hundred_and_fifty_six_bounds_by_lines(rt: HostRuntime) -> Result<(), Fail> {
     let heap = rt.alloc();
     let text = lines(heap, b"event\tA\n", b"linear\tA\tA\t0\t0\n", 128)?;
-    prints(&rt, heap, text.as_slice(), b"")?;
+    prints(&rt, text.as_slice(), b"")?;
     prints_after(
         &rt,
-        heap,
         text.as_slice(),
         b"linear\tA\tA\t-\t0\n",
         b"fault\t12\t130\t0\n",
     )?;
     prints_after(
         &rt,
-        heap,
         text.as_slice(),
         b"linear\tA\tA\t1\t0\n",
         b"fault\t8\t130\t0\n",
     )?;
     prints_after(
         &rt,
-        heap,
         text.as_slice(),
         b"limit\t3\t0\tA\tA\t0\n",
         b"fault\t13\t130\t0\n",
@@ -167,18 +135,13 @@ fn two_hundred_and_fifty_six_bounds_by_lines(rt: HostRuntime) -> Result<(), Fail
         b"linear\tA\tA\t0\t0\n",
         127,
     )?;
-    prints_after(&rt, heap, text.as_slice(), b"delay\tA\tA\t-\t0\n", b"")?;
+    prints_after(&rt, text.as_slice(), b"delay\tA\tA\t-\t0\n", b"")?;
     prints_after(
         &rt,
-        heap,
         text.as_slice(),
         b"delay\tA\tA\t0\t0\n",
         b"fault\t12\t130\t0\n",
     )
-}
-
-fn is_blank(slot: &Need) -> bool {
-    slot.from == 0 && slot.to == 0 && slot.most == 0
 }
 
 const FULL: Need = Need {
@@ -193,11 +156,18 @@ fn a_load_starts_anew(rt: HostRuntime) -> Result<(), Fail> {
     let mut slots = [FULL; 3];
     let _ = sheet.event(b"old");
     let text = b"event\tA\nevent\tB\nlinear\tA\tB\t-\t5\nneed\tA\tB\t5\n";
-    assert!(rt; load(text, &mut sheet, &mut slots).unwrap_or(9) == 1);
+    assert!(rt; load(text, &mut sheet, &mut slots) == Ok(1));
     assert!(rt; sheet.event_count() == 2 && sheet.bound_count() == 1);
     assert!(rt; sheet.number_of(b"old") == None);
-    assert!(rt; slots[0].from == 0 && slots[0].to == 1 && slots[0].most == 5);
-    assert!(rt; is_blank(&slots[1]) && is_blank(&slots[2]));
+    assert!(rt;
+        slots[0]
+            == Need {
+                from: 0,
+                to: 1,
+                most: 5
+            }
+    );
+    assert!(rt; slots[1] == Need::default() && slots[2] == Need::default());
     Ok(())
 }
 
@@ -208,12 +178,12 @@ fn a_refused_load_leaves_nothing(rt: HostRuntime) -> Result<(), Fail> {
     let text = b"event\tA\nevent\tB\nlinear\tA\tB\t-\t5\nneed\tA\tB\t5\nneed\tA\tC\t5\n";
     assert!(rt; load(text, &mut sheet, &mut slots).is_err());
     assert!(rt; sheet.event_count() == 0 && sheet.bound_count() == 0);
-    assert!(rt; is_blank(&slots[0]) && is_blank(&slots[1]));
+    assert!(rt; slots[0] == Need::default() && slots[1] == Need::default());
     // two needs and one slot
     let text = b"event\tA\nneed\tA\tA\t5\nneed\tA\tA\t6\n";
     assert!(rt; load(text, &mut sheet, &mut slots[..1]).is_err());
-    assert!(rt; sheet.event_count() == 0 && is_blank(&slots[0]));
-    assert!(rt; load(text, &mut sheet, &mut slots).unwrap_or(9) == 2);
+    assert!(rt; sheet.event_count() == 0 && slots[0] == Need::default());
+    assert!(rt; load(text, &mut sheet, &mut slots) == Ok(2));
     assert!(rt; slots[1].most == 6);
     Ok(())
 }

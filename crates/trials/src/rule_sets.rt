@@ -137,14 +137,14 @@ const LEAD_ENOUGH: [Sufficiency; 14] = [
 ];
 
 fn admits<R: RuleSet>(rt: &impl Abort, what: &str, rules: &R, asked: &[Admission]) {
-    for (kind, k, count, answer) in asked {
-        assert_eq!(rt; rules.admits(*kind, *k, *count), *answer, "{what}");
+    for &(kind, k, count, answer) in asked {
+        assert_eq!(rt; rules.admits(kind, k, count), answer, "{what}");
     }
 }
 
 fn enough<R: RuleSet>(rt: &impl Abort, what: &str, rules: &R, asked: &[Sufficiency]) {
-    for (kind, k, count, set, answer) in asked {
-        assert_eq!(rt; rules.enough(*kind, *k, *count, *set), *answer, "{what}");
+    for &(kind, k, count, set, answer) in asked {
+        assert_eq!(rt; rules.enough(kind, k, count, set), answer, "{what}");
     }
 }
 

@@ -1,4 +1,5 @@
 // Sheets drawn, settled, read and reopened, with answers that a reader can check by hand.
+use crate::shared::event_name;
 use rules::{Plain, RuleSet, Vote};
 use settle::reading::Reading;
 use settle::replay::{Answer, Call, replay};
@@ -11,26 +12,9 @@ use timing::bound::Term;
 
 const FAR: i64 = 1_000_000_000;
 
-// Whether this separation, or none, and this place were read.
-fn is_read(answer: Result<Reading, Refusal>, separation: Option<i64>, place: i64) -> bool {
-    match answer {
-        Ok(reading) => reading.separation == separation && reading.place == place,
-        Err(_) => false,
-    }
-}
-
-fn is_refused<T: Copy>(answer: Result<T, Refusal>, number: u8) -> bool {
-    match answer {
-        Ok(_) => false,
-        Err(refusal) => refusal.number() == number,
-    }
-}
-
-fn says(answer: Result<bool, Refusal>, what: bool) -> bool {
-    match answer {
-        Ok(said) => said == what,
-        Err(_) => false,
-    }
+// What is answered where this separation, or none, and this place are read.
+fn read(separation: Option<i64>, place: i64) -> Result<Reading, Refusal> {
+    Ok(Reading { separation, place })
 }
 
 // A bound of kind 0 on one term.
@@ -59,50 +43,50 @@ fn memory(heap: Global) -> Result<Drawn<Plain>, AllocError> {
 #[test]
 fn memory_from_each_event(rt: HostRuntime) -> Result<(), Fail> {
     let from_av = settle(memory(rt.alloc())?, 0);
-    assert!(rt; is_read(from_av.read(0), Some(0), 0));
-    assert!(rt; is_read(from_av.read(1), Some(-10), -10));
-    assert!(rt; is_read(from_av.read(2), Some(20), 20));
+    assert!(rt; from_av.read(0) == read(Some(0), 0));
+    assert!(rt; from_av.read(1) == read(Some(-10), -10));
+    assert!(rt; from_av.read(2) == read(Some(20), 20));
     let from_dv = settle(from_av.reopen(), 2);
-    assert!(rt; is_read(from_dv.read(0), Some(0), 0));
-    assert!(rt; is_read(from_dv.read(1), Some(-30), -30));
+    assert!(rt; from_dv.read(0) == read(Some(0), 0));
+    assert!(rt; from_dv.read(1) == read(Some(-30), -30));
     let from_cs = settle(from_dv.reopen(), 1);
-    assert!(rt; is_read(from_cs.read(0), None, FAR));
-    assert!(rt; is_read(from_cs.read(1), Some(0), 0));
-    assert!(rt; is_read(from_cs.read(2), None, FAR));
+    assert!(rt; from_cs.read(0) == read(None, FAR));
+    assert!(rt; from_cs.read(1) == read(Some(0), 0));
+    assert!(rt; from_cs.read(2) == read(None, FAR));
     Ok(())
 }
 
 #[test]
 fn needs_on_the_memory(rt: HostRuntime) -> Result<(), Fail> {
     let settled = settle(memory(rt.alloc())?, 0);
-    assert!(rt; says(settled.is_met(1, -10), true));
-    assert!(rt; says(settled.is_met(1, -11), false));
-    assert!(rt; says(settled.is_met(2, 19), false));
-    assert!(rt; says(settled.is_met(2, 20), true));
+    assert!(rt; settled.is_met(1, -10) == Ok(true));
+    assert!(rt; settled.is_met(1, -11) == Ok(false));
+    assert!(rt; settled.is_met(2, 19) == Ok(false));
+    assert!(rt; settled.is_met(2, 20) == Ok(true));
     let from_cs = settle(settled.reopen(), 1);
-    assert!(rt; says(from_cs.is_met(2, FAR), false));
+    assert!(rt; from_cs.is_met(2, FAR) == Ok(false));
     Ok(())
 }
 
 #[test]
 fn refusals_in_order(rt: HostRuntime) -> Result<(), Fail> {
     let nowhere = settle(memory(rt.alloc())?, 3);
-    assert!(rt; is_refused(nowhere.read(0), 10));
-    assert!(rt; is_refused(nowhere.knot(9), 10));
-    assert!(rt; is_refused(nowhere.is_met(9, 0), 10));
+    assert!(rt; nowhere.read(0).map_err(Refusal::number) == Err(10));
+    assert!(rt; nowhere.knot(9).map_err(Refusal::number) == Err(10));
+    assert!(rt; nowhere.is_met(9, 0).map_err(Refusal::number) == Err(10));
     let settled = settle(nowhere.reopen(), 0);
-    assert!(rt; is_refused(settled.read(3), 10));
-    assert!(rt; is_refused(settled.knot(0), 18));
-    assert!(rt; is_refused(settled.knot(9), 18));
+    assert!(rt; settled.read(3).map_err(Refusal::number) == Err(10));
+    assert!(rt; settled.knot(0).map_err(Refusal::number) == Err(18));
+    assert!(rt; settled.knot(9).map_err(Refusal::number) == Err(18));
     let mut drawn = settled.reopen();
     limit(&mut drawn, 0, 0, -1);
     let knotted = settle(drawn, 0);
-    assert!(rt; is_refused(knotted.read(3), 10));
-    assert!(rt; is_refused(knotted.read(0), 17));
-    assert!(rt; is_refused(knotted.is_met(0, 0), 17));
-    assert!(rt; is_refused(knotted.knot(5), 15));
-    assert!(rt; says(knotted.knot(4), true));
-    assert!(rt; says(knotted.knot(0), false));
+    assert!(rt; knotted.read(3).map_err(Refusal::number) == Err(10));
+    assert!(rt; knotted.read(0).map_err(Refusal::number) == Err(17));
+    assert!(rt; knotted.is_met(0, 0).map_err(Refusal::number) == Err(17));
+    assert!(rt; knotted.knot(5).map_err(Refusal::number) == Err(15));
+    assert!(rt; knotted.knot(4) == Ok(true));
+    assert!(rt; knotted.knot(0) == Ok(false));
     Ok(())
 }
 
@@ -114,12 +98,12 @@ fn the_knot_is_the_later_of_two(rt: HostRuntime) -> Result<(), Fail> {
     limit(&mut drawn, 0, 0, -1);
     limit(&mut drawn, 1, 1, -1);
     let settled = settle(drawn, 0);
-    assert!(rt; says(settled.knot(0), false));
-    assert!(rt; says(settled.knot(1), true));
+    assert!(rt; settled.knot(0) == Ok(false));
+    assert!(rt; settled.knot(1) == Ok(true));
     let mut drawn = settled.reopen();
     let _ = drawn.strike(1);
     let settled = settle(drawn, 1);
-    assert!(rt; says(settled.knot(0), true));
+    assert!(rt; settled.knot(0) == Ok(true));
     Ok(())
 }
 
@@ -144,11 +128,11 @@ fn three_inputs(heap: Global, kind: u8, k: u8) -> Result<Drawn<Vote>, AllocError
 #[test]
 fn inputs_by_three_rules(rt: HostRuntime) -> Result<(), Fail> {
     let latest = settle(three_inputs(rt.alloc(), 0, 0)?, 0);
-    assert!(rt; is_read(latest.read(3), Some(9), 9));
+    assert!(rt; latest.read(3) == read(Some(9), 9));
     let every = settle(three_inputs(rt.alloc(), 1, 0)?, 0);
-    assert!(rt; is_read(every.read(3), Some(1), 1));
+    assert!(rt; every.read(3) == read(Some(1), 1));
     let two = settle(three_inputs(rt.alloc(), 2, 2)?, 0);
-    assert!(rt; is_read(two.read(3), Some(5), 5));
+    assert!(rt; two.read(3) == read(Some(5), 5));
     Ok(())
 }
 
@@ -156,13 +140,13 @@ fn inputs_by_three_rules(rt: HostRuntime) -> Result<(), Fail> {
 fn the_longest_chain(rt: HostRuntime) -> Result<(), Fail> {
     let mut drawn = Drawn::open(rt.alloc(), Plain {})?;
     for i in 0..64u8 {
-        let _ = drawn.event(&[b'E', b'0' + i / 10, b'0' + i % 10]);
+        let _ = drawn.event(&event_name(i));
     }
     for i in 0..63 {
         limit(&mut drawn, i + 1, i, 1_000_000);
     }
     let settled = settle(drawn, 0);
-    assert!(rt; is_read(settled.read(63), Some(63_000_000), 63_000_000));
+    assert!(rt; settled.read(63) == read(Some(63_000_000), 63_000_000));
     Ok(())
 }
 
@@ -207,10 +191,10 @@ fn a_journal(rt: HostRuntime) -> Result<(), Fail> {
     assert!(rt; matches!(answers[3], Answer::Added(Err(_))));
     assert!(rt; matches!(answers[4], Answer::OutOfPlace));
     assert!(rt; matches!(answers[5], Answer::Moved));
-    assert!(rt; matches!(answers[6], Answer::ReadAs(answer) if is_read(answer, Some(5), 5)));
+    assert!(rt; matches!(answers[6], Answer::ReadAs(answer) if answer == read(Some(5), 5)));
     assert!(rt; matches!(answers[7], Answer::OutOfPlace));
     assert!(rt; matches!(answers[9], Answer::Struck(Ok(0))));
-    assert!(rt; matches!(answers[11], Answer::ReadAs(answer) if is_read(answer, None, FAR)));
+    assert!(rt; matches!(answers[11], Answer::ReadAs(answer) if answer == read(None, FAR)));
     Ok(())
 }
 
@@ -249,14 +233,14 @@ fn a_journal_with_a_knot(rt: HostRuntime) -> Result<(), Fail> {
     assert!(rt; answers.len() == 19);
     assert!(rt; matches!(answers[1], Answer::Added(Err(fault)) if fault.number() == 9));
     assert!(rt; matches!(answers[2], Answer::Added(Ok(1))));
-    assert!(rt; matches!(answers[5], Answer::ReadAs(answer) if is_refused(answer, 17)));
-    assert!(rt; matches!(answers[6], Answer::ReadAs(answer) if is_refused(answer, 10)));
-    assert!(rt; matches!(answers[7], Answer::InKnot(answer) if says(answer, true)));
-    assert!(rt; matches!(answers[8], Answer::InKnot(answer) if is_refused(answer, 15)));
+    assert!(rt; matches!(answers[5], Answer::ReadAs(Err(refusal)) if refusal.number() == 17));
+    assert!(rt; matches!(answers[6], Answer::ReadAs(Err(refusal)) if refusal.number() == 10));
+    assert!(rt; matches!(answers[7], Answer::InKnot(Ok(true))));
+    assert!(rt; matches!(answers[8], Answer::InKnot(Err(refusal)) if refusal.number() == 15));
     assert!(rt; matches!(answers[9], Answer::OutOfPlace));
-    assert!(rt; matches!(answers[11], Answer::Struck(answer) if is_refused(answer, 15)));
-    assert!(rt; matches!(answers[14], Answer::ReadAs(answer) if is_read(answer, None, FAR)));
-    assert!(rt; matches!(answers[15], Answer::InKnot(answer) if is_refused(answer, 18)));
-    assert!(rt; matches!(answers[18], Answer::ReadAs(answer) if is_refused(answer, 10)));
+    assert!(rt; matches!(answers[11], Answer::Struck(Err(refusal)) if refusal.number() == 15));
+    assert!(rt; matches!(answers[14], Answer::ReadAs(answer) if answer == read(None, FAR)));
+    assert!(rt; matches!(answers[15], Answer::InKnot(Err(refusal)) if refusal.number() == 18));
+    assert!(rt; matches!(answers[18], Answer::ReadAs(Err(refusal)) if refusal.number() == 10));
     Ok(())
 }

@@ -1,5 +1,5 @@
 // Bytes, lines and fields of a text, at every limit.
-use report::report;
+use crate::shared::prints;
 use std::test::Fail;
 use text::checks::{MAX_BYTES, check_bytes};
 use text::fault::{Layer, Place, TextFault};
@@ -100,11 +100,7 @@ fn fields_are_parts_of_a_line(rt: HostRuntime) -> Result<(), Fail> {
 
 #[test]
 fn faults_are_reported(rt: HostRuntime) -> Result<(), Fail> {
-    let found = report(rt.alloc(), b"event\tAV\nevent\tC\rS\n")?;
-    assert!(rt; found.as_slice() == b"fault\t3\t2\t0\n".as_slice());
-    let found = report(rt.alloc(), b"event\tAV")?;
-    assert!(rt; found.as_slice() == b"fault\t2\t1\t0\n".as_slice());
-    let found = report(rt.alloc(), b"event\tAV\n")?;
-    assert!(rt; found.is_empty());
-    Ok(())
+    prints(&rt, b"event\tAV\nevent\tC\rS\n", b"fault\t3\t2\t0\n")?;
+    prints(&rt, b"event\tAV", b"fault\t2\t1\t0\n")?;
+    prints(&rt, b"event\tAV\n", b"")
 }

@@ -1,7 +1,7 @@
-use Rattle.std.proofs.Common.{ap, ◌∙◌, subst, arith}
-use Rattle.settle.specs.Model.{HoldsRight}
-use Rattle.bench_hooks.specs.Times.{one_if_read}
-use Rattle.bench_hooks.proofs.Turns.{turned}
+use Rattle.std.proofs.Common.{ap, ◌∙◌, arith}
+use Rattle.std.specs.Prelude.{is_ok}
+use Rattle.std.specs.Int.{from_bool}
+use Rattle.bench_hooks.proofs.Turns.{at_most_one, turned}
 use Rattle.bench_hooks.proofs.settle_sheet_times.Goals as goal
 
 pub loop-turn-preserved : goal.loop-turn-preserved
@@ -9,10 +9,9 @@ loop-turn-preserved g c =
     let t = c.settle-settled.result in
     let told = c.settle-settled.ensures in
     let inv = c.loop-turn.invariant in
-    let moved = told.moved ∙ inv.0 in
-    let right = subst (λ d. HoldsRight (g.R.RuleSet.suffices d.rules) t) inv.0 told.right in (
+    let moved = told.moved ∙ inv.0 in (
       c.reopen-drawn.ensures ∙ moved,
-      omega arith,
-      turned (g.R.RuleSet.suffices c.args.sheet.rules) c.args.sheet t c.args.source c.loop-turn._turn c.loop-turn.count c.one_if_read-count.result
-          moved told.from right (c.one_if_read-count.ensures.value ∙ ap one_if_read c.read.ensures.held) inv.2,
+      omega (arith, inv.1, c.from-count.ensures, at_most_one c.is_ok.result),
+      turned g.met.R.RuleSet.lawful c.args.sheet t c.args.source c.loop-turn._turn c.loop-turn.count c.from-count.result
+          moved told.from (c.from-count.ensures ∙ ap from_bool (c.is_ok.ensures.value ∙ ap is_ok c.read.ensures.held)) inv.2,
     )

@@ -1,10 +1,11 @@
 ghost use Rattle.std.specs.Prelude.{◌≡◌, map, length, IfOk};
 ghost use Rattle.std.specs.Option.{option_map};
+ghost use Rattle.std.specs.Result.{result_err};
 ghost use Rattle.std.specs.List.{slice_get};
 ghost use Rattle.text.specs.Spelled.{spelled};
 ghost use Rattle.timing.specs.Bounds.{term_of, bound_of};
-ghost use Rattle.sheet.specs.Plain.{new_sheet, number_in, is_delay, terms_fault, Gives, event_call, bound_call, strike_call};
-ghost use Rattle.sheet.specs.Model.{sheet_of};
+ghost use Rattle.sheet.specs.Plain.{new_sheet, number_in, is_delay, terms_fault, event_call, bound_call, strike_call};
+ghost use Rattle.sheet.specs.Model.{sheet_of, Does};
 
 use crate::drawn::Drawn;
 use crate::fault::{CallFault, Refusal};
@@ -12,53 +13,43 @@ use rules::RuleSet;
 use std::alloc::{AllocError, Global};
 use text::name::Name;
 use timing::bound::{Bound, Term};
-
-/// The most events of a sheet.
-pub const MAX_EVENTS: usize = 64;
-
-/// The most bounds of a sheet.
-pub const MAX_BOUNDS: usize = 256;
-
-/// The greatest delay of a term, in ticks, either way.
-pub const MAX_DELAY: i64 = 1_000_000;
+pub use timing::limits::{MAX_BOUNDS, MAX_DELAY, MAX_EVENTS};
 
 /// The number of the event with this name.
+// a search, not a map: only opening a sheet may want memory
 fn number_in(names: &[Name], name: &[u8]) -> Option<usize>
     ensures { result ≡ number_in (map spelled names.now) name.now }
 {
-    for (i, known) in names.iter().enumerate() {
-        if known.is(name) {
-            return Some(i);
-        }
-    }
-    None
+    names.iter().position(|known| known.is(name))
 }
 
 fn is_delay(term: &Term) -> bool
     ensures { result ≡ is_delay term.now.delay }
 {
-    -MAX_DELAY <= term.delay && term.delay <= MAX_DELAY
+    (-MAX_DELAY..=MAX_DELAY).contains(&term.delay)
 }
 
 /// The first fault in the terms of a bound, on a sheet with so many events.
-fn terms_fault(events: usize, terms: &[Term]) -> Option<CallFault>
-    ensures { result ≡ terms_fault events (map term_of terms.now) }
+fn check_terms(events: usize, terms: &[Term]) -> Result<(), CallFault>
+    ensures { result_err result ≡ terms_fault events (map term_of terms.now) }
 {
+    // a for, not a chain: a term has two faults, looked for in this order
     for term in terms {
         if term.from >= events {
-            return Some(CallFault::NoSuchEvent);
+            return Err(CallFault::NoSuchEvent);
         }
         if !is_delay(term) {
-            return Some(CallFault::DelayOutOfRange);
+            return Err(CallFault::DelayOutOfRange);
         }
     }
-    None
+    Ok(())
 }
 
 /// Whether the rule set admits the bound.
 fn admits<R: RuleSet>(rules: &R, bound: &Bound) -> bool
     ensures { result ≡ R.RuleSet.admitted rules.now (bound_of bound.now).kind (bound_of bound.now).k (length (bound_of bound.now).terms) }
 {
+    // a cast, not try_from: a bound has at most eight terms, so there is no other case to write
     rules.admits(bound.kind(), bound.k(), bound.terms().len() as u8)
 }
 
@@ -80,12 +71,9 @@ impl<R: RuleSet> Drawn<R> {
 
     /// Adds an event at the end, and answers its number.
     pub fn event(&mut self, name: &[u8]) -> Result<usize, CallFault>
-        ensures gives { Gives (event_call (sheet_of self.old) name.now) result (sheet_of self.new) }
-        ensures keeps { self.new.rules ≡ self.old.rules }
+        ensures { Does (event_call (sheet_of self.old) name.now) result self.old self.new }
     {
-        let Some(own) = Name::new(name) else {
-            return Err(CallFault::MalformedName);
-        };
+        let own = Name::new(name).ok_or(CallFault::MalformedName)?;
         if self.number_of(name).is_some() {
             return Err(CallFault::NameTaken);
         }
@@ -99,13 +87,10 @@ impl<R: RuleSet> Drawn<R> {
 
     /// Adds a bound at the end, and answers its number.
     pub fn bound(&mut self, kind: u8, k: u8, to: usize, terms: &[Term]) -> Result<usize, CallFault>
-        ensures gives { Gives (bound_call (R.RuleSet.admitted self.old.rules) (sheet_of self.old) (record { to = to; kind = kind; k = k; terms = map term_of terms.now })) result (sheet_of self.new) }
-        ensures keeps { self.new.rules ≡ self.old.rules }
+        ensures { Does (bound_call (R.RuleSet.admitted self.old.rules) (sheet_of self.old) (record { to = to; kind = kind; k = k; terms = map term_of terms.now })) result self.old self.new }
     {
         // no rule set admits a bound with no terms or with more than eight
-        let Some(own) = Bound::new(to, kind, k, terms) else {
-            return Err(CallFault::NotAdmitted);
-        };
+        let own = Bound::new(to, kind, k, terms).ok_or(CallFault::NotAdmitted)?;
         if !admits(&self.rules, &own) {
             return Err(CallFault::NotAdmitted);
         }
@@ -113,9 +98,7 @@ impl<R: RuleSet> Drawn<R> {
         if to >= events {
             return Err(CallFault::NoSuchEvent);
         }
-        if let Some(fault) = terms_fault(events, terms) {
-            return Err(fault);
-        }
+        check_terms(events, terms)?;
         let number = self.bounds.len();
         if number >= MAX_BOUNDS {
             return Err(CallFault::TooManyBounds);
@@ -126,15 +109,13 @@ impl<R: RuleSet> Drawn<R> {
 
     /// Removes a bound, so that the numbers of later ones fall by one, and answers how many are left.
     pub fn strike(&mut self, number: usize) -> Result<usize, Refusal>
-        ensures gives { Gives (strike_call (sheet_of self.old) number) result (sheet_of self.new) }
-        ensures keeps { self.new.rules ≡ self.old.rules }
+        ensures { Does (strike_call (sheet_of self.old) number) result self.old self.new }
     {
-        let count = self.bounds.len();
-        if number >= count {
+        if number >= self.bounds.len() {
             return Err(Refusal::NoSuchBound);
         }
-        let _ = self.bounds.remove(number);
-        Ok(count - 1)
+        self.bounds.remove(number);
+        Ok(self.bounds.len())
     }
 
     /// Makes the sheet new again, under the same rules.
@@ -142,8 +123,8 @@ impl<R: RuleSet> Drawn<R> {
         ensures new { sheet_of self.new ≡ new_sheet }
         ensures keeps { self.new.rules ≡ self.old.rules }
     {
-        self.bounds.truncate(0);
-        self.names.truncate(0);
+        self.bounds.clear();
+        self.names.clear();
     }
 
     /// How many events there are.
@@ -164,29 +145,28 @@ impl<R: RuleSet> Drawn<R> {
     pub fn name_of(&self, event: usize) -> Option<Name>
         ensures { option_map spelled result ≡ slice_get (sheet_of self.now).names event }
     {
-        if event < self.names.len() {
-            Some(self.names[event])
-        } else {
-            None
-        }
+        self.names.get(event).copied()
+    }
+
+    /// The names of the events, by number.
+    pub fn names(&self) -> &[Name]
+        ensures { map spelled result.now ≡ (sheet_of self.now).names }
+    {
+        self.names.as_slice()
     }
 
     /// The number of the event with this name.
     pub fn number_of(&self, name: &[u8]) -> Option<usize>
         ensures { result ≡ number_in (sheet_of self.now).names name.now }
     {
-        number_in(self.names.as_slice(), name)
+        number_in(self.names(), name)
     }
 
     /// The bound with this number, None where there is none.
     pub fn bound_at(&self, number: usize) -> Option<Bound>
         ensures { option_map bound_of result ≡ slice_get (sheet_of self.now).bounds number }
     {
-        if number < self.bounds.len() {
-            Some(self.bounds[number])
-        } else {
-            None
-        }
+        self.bounds.get(number).copied()
     }
 
     /// The bounds, by number.

@@ -5,6 +5,7 @@ ghost use Rattle.text.specs.Names.{name_byte, is_name};
 ghost use Rattle.text.specs.Spelled.{spelled};
 
 use crate::name::Name;
+use crate::short::Short;
 
 /// The most bytes that a name may have.
 pub const MAX_LEN: usize = 12;
@@ -12,24 +13,14 @@ pub const MAX_LEN: usize = 12;
 fn is_name_byte(b: u8) -> bool
     ensures { result ≡ name_byte b }
 {
-    matches!(b, b'A'..=b'Z' | b'a'..=b'z' | b'0'..=b'9' | b'_')
+    b.is_ascii_alphanumeric() || b == b'_'
 }
 
+// a function of its own: inside the `if` of its caller, what `all` answers got no proof
 fn all_name_bytes(bytes: &[u8]) -> bool
     ensures { result ≡ each name_byte bytes.now }
 {
-    for b in bytes {
-        if !is_name_byte(*b) {
-            return false;
-        }
-    }
-    true
-}
-
-fn same_bytes(a: &[u8], b: &[u8]) -> bool
-    ensures { Decides result (a.now ≡ b.now) }
-{
-    a == b
+    bytes.iter().all(|b| is_name_byte(*b))
 }
 
 impl Name {
@@ -37,26 +28,24 @@ impl Name {
     pub fn new(written: &[u8]) -> Option<Name>
         ensures { MatchOption result (is_name written.now ≡ false) (λ name. spelled name ≡ written.now) }
     {
-        let len = written.len();
-        if len == 0 || len > MAX_LEN || !all_name_bytes(written) {
+        if written.is_empty() || !all_name_bytes(written) {
             return None;
         }
-        let mut bytes = [0; MAX_LEN];
-        bytes[..len].copy_from_slice(written);
-        Some(Name { bytes, len })
+        let bytes = Short::new(written)?;
+        Some(Name { bytes })
     }
 
     /// The bytes that write it.
     pub fn as_bytes(&self) -> &[u8]
         ensures { result.now ≡ spelled self.now }
     {
-        &self.bytes[..self.len]
+        self.bytes.as_bytes()
     }
 
     /// Whether it is written so.
     pub fn is(&self, written: &[u8]) -> bool
         ensures { Decides result (spelled self.now ≡ written.now) }
     {
-        same_bytes(self.as_bytes(), written)
+        self.as_bytes() == written
     }
 }

@@ -1,14 +1,12 @@
 use Rattle.std.proofs.Common.{ℕ, List, length, sym, ap, ◌∙◌, subst, inr}
-use Rattle.std.specs.List.{AllByRecursion}
 use Rattle.rules.specs.Sets.{vote_enough}
 use Rattle.sheet.specs.Model.{sheet_of}
 use Rattle.sheet.specs.Plain.{PlainSheet}
 use Rattle.sheet.proofs.Standing.{sheet_is}
-use Rattle.settle.specs.Meaning.{Right, Consistent}
+use Rattle.settle.specs.Meaning.{Consistent}
 use Rattle.settle.specs.Model.{knot_of}
 use Rattle.report.specs.Lines.{knot_lines}
 use Rattle.report.specs.Puts.{said_yes}
-use Rattle.report.specs.Known.{Known}
 use Rattle.report.specs.Report.{Findings, NeedsPrinted}
 use Rattle.report.proofs.FromFound.{knot_found, keeping_found}
 use Rattle.report.proofs.findings.put_findings.Goals as goal
@@ -16,31 +14,23 @@ use Rattle.report.proofs.findings.put_findings.Goals as goal
 pub returns-then-is_contradictory : goal.returns-then-is_contradictory
 returns-then-is_contradictory c =
     let t = c.settle-settled.result in
-    let right = subst (λ (k : ℕ). Right vote_enough (sheet_of t.drawn) k t.found) c.settle-settled.ensures.from c.settle-settled.ensures.right in
     let said = sym c.is_contradictory.ensures ∙ c.if-is_contradictory.true in
-    let found = knot_found (sheet_of t.drawn) c.args.needs.now t.found right said in
+    let found = knot_found (sheet_of t.drawn) c.args.needs.now t.source t.found c.settle-settled.ensures.right said in
     let text : List ℕ = knot_lines (λ (i : ℕ). said_yes (knot_of t i)) (length (sheet_of t.drawn).bounds) in
     (text, subst (λ (s : PlainSheet). Findings s c.args.needs.now text) (ap sheet_of c.settle-settled.ensures.moved) found, c.in_ok-put_knot.ensures)
 
-pub put_needs-requires : goal.put_needs-requires
-put_needs-requires c =
+pub put_needs-requires-clause-some : goal.put_needs-requires-clause-some
+put_needs-requires-clause-some c =
     let t = c.settle-settled.result in
-    let right = subst (λ (k : ℕ). Right vote_enough (sheet_of t.drawn) k t.found) c.settle-settled.ensures.from c.settle-settled.ensures.right in
     let said = sym c.is_contradictory.ensures ∙ c.if-is_contradictory.false in
-    let some = keeping_found (sheet_of t.drawn) t.found (sheet_is t.drawn) right said in
-    let back = ap sheet_of c.reopen.ensures in
-    let whole = back ∙ ap sheet_of c.settle-settled.ensures.moved in
-    record {
-      some = subst (λ (s : PlainSheet). Consistent vote_enough s.bounds) (sym back) some;
-      known = subst (λ (s : PlainSheet). AllByRecursion (Known (length s.names)) c.args.needs.now) (sym whole) c.requires.known;
-    }
+    let some = keeping_found (sheet_of t.drawn) t.source t.found (sheet_is t.drawn) c.settle-settled.ensures.from c.settle-settled.ensures.right said in
+    subst (λ (s : PlainSheet). Consistent vote_enough s.bounds) (sym (ap sheet_of c.reopen.ensures)) some
 
 pub returns : goal.returns
 returns c =
     let t = c.settle-settled.result in
-    let right = subst (λ (k : ℕ). Right vote_enough (sheet_of t.drawn) k t.found) c.settle-settled.ensures.from c.settle-settled.ensures.right in
     let said = sym c.is_contradictory.ensures ∙ c.if-is_contradictory.false in
-    let some = keeping_found (sheet_of t.drawn) t.found (sheet_is t.drawn) right said in
+    let some = keeping_found (sheet_of t.drawn) t.source t.found (sheet_is t.drawn) c.settle-settled.ensures.from c.settle-settled.ensures.right said in
     let moved = ap sheet_of c.settle-settled.ensures.moved in
     let whole = ap sheet_of c.reopen.ensures ∙ moved in
     let put = c.in_ok-put_needs.ensures in (

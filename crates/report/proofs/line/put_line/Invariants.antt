@@ -1,6 +1,6 @@
-use Rattle.std.proofs.Common.{◌≡◌, ◌++◌, map, take, vec_items}
-use Rattle.text.specs.Split.{tabbed}
+use Rattle.std.proofs.Common.{vec_items}
+use Rattle.report.proofs.Fields.{Put}
 use Rattle.report.proofs.line.put_line.Given as goal
 
-abbrev pub invariant-loop-i : goal.invariant-loop-i
-invariant-loop-i l = vec_items l.out ≡ vec_items l.initial.out ++ tabbed (map (λ x. x.now) (take l.i l.fields))
+abbrev pub invariant-loop-field : goal.invariant-loop-field
+invariant-loop-field l = Put (λ x. x.now) (vec_items l.fn.out) l.word l.fields l.field-index (vec_items l.out)

@@ -1,8 +1,7 @@
-use Rattle.std.proofs.Common.{◌≡◌, ◌<◌, true, false, get_or, pos, ap, ◌∙◌, arith, take_all, w64, SFits, rules}
+use Rattle.std.proofs.Common.{◌≡◌, ◌<◌, true, false, get_or, pos, ◌∙◌, arith, w64, SFits, rules}
 use lib.Signed.{le_z}
 use Rattle.std.proofs.lemmas.Int.{ints, to_z-of_z}
 use Rattle.rules.proofs.Masks.{mask_more, mask_less}
-use Rattle.solver.specs.Permitted.{reaching}
 use Rattle.solver.proofs.latest.reached.Goals as goal
 use Rattle.solver.proofs.latest.reached.Goals.{then-sum-time, else-sum-time}
 
@@ -21,8 +20,3 @@ loop-i-preserved c =
           let out : le_z c.args.time (get_or xs c.loop-i.i (pos 0)) ≡ false = (let t = simp to_z-of_z at w.if-sum-time.false in grind (arith, ints)) in
           simp to_z-of_z (w.set-is ∙ mask_less (le_z c.args.time) xs c.loop-i.i (pos 0) c.loop-i.set c.loop-i-test.true inv out)
     ]
-
-pub returns : goal.returns
-returns c =
-    let whole : SFits w64 c.args.time = c.ranges.time in
-    simp to_z-of_z at c.loop-i.invariant ∙ ap (reaching c.args.time) (take_all _ _ c.loop-i-test.false)

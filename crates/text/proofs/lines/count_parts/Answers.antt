@@ -1,14 +1,10 @@
-use Rattle.std.proofs.Common.{arith, rules}
-use Rattle.text.proofs.Splits.{count_yes, count_no, count-all}
+use Rattle.std.proofs.Common.{eqb, rules, tests}
+use Rattle.std.proofs.lemmas.Iterator.Consumers.{count_from_yields_List}
+use Rattle.std.proofs.lemmas.Iterator.Splits.{YieldsList-from_slice_split}
 use Rattle.text.proofs.lines.count_parts.Goals as goal
-use Rattle.text.proofs.lines.count_parts.Goals.{then-b-c, else-b-c}
-
-pub loop-b-preserved : goal.loop-b-preserved
-loop-b-preserved c =
-    elim c.if-b-c.branch [
-      | then-b-c w ↦ omega (arith, w.n-is, count_yes c.args.c c.args.s.now c.loop-b.b-index (omega arith) w.if-b-c.true)
-      | else-b-c w ↦ omega (arith, w.n-is, count_no c.args.c c.args.s.now c.loop-b.b-index (omega arith) w.if-b-c.false)
-    ]
 
 pub returns : goal.returns
-returns c = search (rules, count-all)
+returns c =
+    count_from_yields_List c.split.result _ c.count.ensures.ran
+    (YieldsList-from_slice_split _ (λ b. eqb b c.args.c) c.args.s.now c.split.ensures.rest c.split.ensures.done c.split.ensures.closure
+    (λ x b q k. search (rules, tests)))

@@ -4,5 +4,4 @@ use Rattle.settle.proofs.Running.{SoFar}
 use Rattle.settle.proofs.replay.calls.replay.Given as goal
 
 abbrev pub invariant-loop-call : goal.invariant-loop-call
-invariant-loop-call g l =
-    SoFar g.R.RuleSet.admitted g.R.RuleSet.suffices (rules_in l.initial.sheet) (stage_of l.initial.sheet) l.sheet l.calls l.call-index (vec_items l.answers)
+invariant-loop-call g l = SoFar (rules_in l.initial.sheet) (stage_of l.initial.sheet) l.sheet l.calls l.call-index (vec_items l.answers)

@@ -1,17 +1,11 @@
-use Rattle.std.proofs.Common.{◌≡◌, Err, sym, ap, arith}
-use Rattle.sheet.proofs.Standing.{few_bounds}
+use Rattle.std.proofs.Common.{Err, rules, arith}
+use Rattle.std.proofs.lemmas.Grind.{common_steps}
 use Rattle.sheet.specs.declared.fault.Refusal.TheVariants.{NotContradictory}
-use Rattle.settle.specs.Held.{knot_held}
-use Rattle.settle.specs.Model.{standing, knot_of}
-use Rattle.settle.specs.declared.settled.Found.{Found}
 use Rattle.settle.proofs.Meant.{knots_since}
 use Rattle.settle.proofs.settled.Settled.knot.Goals as goal
 
-pub bounds-flags-bound : goal.bounds-flags-bound
-bounds-flags-bound g c = omega (arith, few_bounds c.args.self.now.drawn)
+pub returns-in-Placed-clause-meant : goal.returns-in-Placed-clause-meant
+returns-in-Placed-clause-meant g c = knots_since g.met.R.RuleSet.lawful c.args.self.now c.args.bound (Err NotContradictory) (search rules)
 
-pub returns-in-Placed : goal.returns-in-Placed
-returns-in-Placed g c =
-    let t = c.args.self.now in
-    let held : Err NotContradictory ≡ knot_of t c.args.bound = sym (ap (λ (f : Found). knot_held (standing t) f c.args.bound) c.in-Placed.is) in
-    record { held = held; meant = knots_since (g.R.RuleSet.suffices t.drawn.rules) (standing t) t.source t.found c.args.bound _ held }
+pub returns-in-Knotted-clause-meant : goal.returns-in-Knotted-clause-meant
+returns-in-Knotted-clause-meant g c = knots_since g.met.R.RuleSet.lawful c.args.self.now c.args.bound c.ok_or.result (grind (arith, common_steps))

@@ -1,11 +1,11 @@
-use Rattle.std.proofs.Common.{sym, refl, subst, arith}
+use Rattle.std.proofs.Common.{refl, subst, sym, arith}
 use Rattle.sheet.specs.Sound.{Aimed, Termed, plain_of}
 use Rattle.sheet.proofs.Keeping.{struck_aimed, struck_termed}
 use Rattle.sheet.proofs.Outcomes.{bound_count, no_such_bound, bound_struck, struck_is}
 use Rattle.sheet.proofs.drawn.Drawn.strike.Goals as goal
 
-pub returns-then-number-count : goal.returns-then-number-count
-returns-then-number-count g c =
+pub returns-then-number-len : goal.returns-then-number-len
+returns-then-number-len g c =
     let count = bound_count c.args.self.now.names c.args.self.now.bounds in
     record { gives = no_such_bound _ _ (omega arith); keeps = refl }
 

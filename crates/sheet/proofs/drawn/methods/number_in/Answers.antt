@@ -1,15 +1,20 @@
+use Rattle.std.proofs.Common.{◌≡◌, Decides, ◌∙◌, rules}
+use Rattle.std.specs.Str.{bytes_eq}
+use Rattle.std.proofs.lemmas.Bool.Decides.{same_from_decides}
+use Rattle.std.proofs.lemmas.Iterator.{YieldsList-from_slice}
+use Rattle.std.proofs.lemmas.Iterator.Search.{position_from_yields_List}
+use Rattle.std.proofs.lemmas.Slice.Eq.{bytes_eq-Decides}
 use Rattle.text.specs.Spelled.{spelled}
-use Rattle.sheet.proofs.Numbering.{number_start, number_found, number_more, number_none}
+use Rattle.text.specs.declared.name.Name.{Name}
+use Rattle.sheet.proofs.Numbering.{number_of_place}
 use Rattle.sheet.proofs.drawn.methods.number_in.Goals as goal
 
-pub loop-i-init : goal.loop-i-init
-loop-i-init c = number_start spelled c.args.names.now c.args.name.now
-
-pub returns-then-is : goal.returns-then-is
-returns-then-is c = number_found spelled _ _ _ _ c.loop-i-test.true c.index-names-i.is c.if-is.ensures c.loop-i.invariant
-
-pub loop-i-preserved : goal.loop-i-preserved
-loop-i-preserved c = number_more spelled _ _ _ _ c.loop-i-test.true c.index-names-i.is c.if-is.ensures c.loop-i.invariant
-
 pub returns : goal.returns
-returns c = number_none spelled _ _ _ c.loop-i-test.false c.loop-i.invariant
+returns c =
+    position_from_yields_List (λ (n : Name). bytes_eq (spelled n) c.args.name.now) _ _ _ c.position.ensures.ran (YieldsList-from_slice _ c.iter.ensures.rest)
+    (λ x b q k. (
+      search rules,
+      let told : Decides b (spelled x.now ≡ c.args.name.now) = search rules in
+          same_from_decides b (bytes_eq (spelled x.now) c.args.name.now) told (bytes_eq-Decides (spelled x.now) c.args.name.now),
+    ))
+    ∙ number_of_place spelled c.args.names.now c.args.name.now

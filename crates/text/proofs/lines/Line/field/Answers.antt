@@ -1,31 +1,26 @@
-use Rattle.std.proofs.Common.{◌≡◌, ℕ, ◌+◌, ◌<◌, ◌≤◌, length, take, drop, sym, ap, ◌∙◌, arith, length-drop, rules}
-use Rattle.text.specs.Split.{before, fields_of, parted_by}
-use Rattle.text.proofs.Splits.{parted_next, parted_here, parted_le, parted_over, parted_within, rest_after}
+use Rattle.std.proofs.Common.{◌≡◌, List, ℕ, [], Some, slice_get, eqb, Bor, sym, ap, ◌∙◌, rules, tests}
+use Rattle.std.specs.Option.{option_map}
+use Rattle.std.proofs.lemmas.Option.{slice_get_within, get_or_from_slice_get}
+use Rattle.std.proofs.lemmas.Iterator.Consumers.{nth_from_yields_List}
+use Rattle.std.proofs.lemmas.Iterator.Splits.{YieldsList-from_slice_split}
+use Rattle.text.specs.Split.{fields_of}
+use Rattle.text.proofs.Splits.{no_part}
 use Rattle.text.proofs.lines.Line.field.Goals as goal
 
-pub returns-then-n-rest : goal.returns-then-n-rest
-returns-then-n-rest c =
-    let le : length c.loop.rest.now ≤ before 9 c.loop.rest.now = omega arith in
-    omega (arith, parted_over 9 (fields_of c.args.self.bytes.now) c.loop.rest.now c.loop.counter c.loop.invariant.0 le)
-
-pub overflow_add-rest : goal.overflow_add-rest
-overflow_add-rest c = search rules
-
-pub loop-preserved : goal.loop-preserved
-loop-preserved c =
-    let xs = c.loop.rest.now in
-    let inside : before 9 xs < length xs = omega arith in
-    let rest = rest_after xs (before 9 xs) (c.span-n.result + 1) (omega arith) in (
-      parted_next 9 (fields_of c.args.self.bytes.now) xs c.loop.counter c.loop.invariant.0 inside ∙ sym (ap (parted_by 9) rest),
-      omega (arith, ap length rest, length-drop (before 9 xs + 1) xs),
-    )
-
-pub overflow_add-result : goal.overflow_add-result
-overflow_add-result c = search (rules, parted_le 9 c.args.self.bytes.now, parted_within)
+pub returns-in_err-bytes : goal.returns-in_err-bytes
+returns-in_err-bytes c =
+    let line = c.args.self.bytes.now in
+    let got =
+    nth_from_yields_List c.nth.result c.nth.new.self c.args.k c.nth.ensures.ran
+    (YieldsList-from_slice_split _ (λ b. eqb b 9) line c.split.ensures.rest c.split.ensures.done c.split.ensures.closure (λ x b q k. search (rules, tests))) in
+    rw c.from_residual.ensures (no_part (fields_of line) c.args.k (sym got ∙ ap (option_map (λ (x : Bor (List ℕ)). x.now)) c.in_err-bytes.was))
 
 pub returns : goal.returns
 returns c =
-    let ps = fields_of c.args.self.bytes.now in
-    let xs = c.loop.rest.now in
-    let at : drop c.args.k ps ≡ fields_of xs = ap (λ (i : ℕ). drop i ps) (omega arith) ∙ c.loop.invariant.0 in
-    (parted_within 9 ps xs c.args.k at, ap (λ (n : ℕ). take n xs) c.span.ensures.value ∙ sym (parted_here 9 ps xs c.args.k at), search rules)
+    let line = c.args.self.bytes.now in
+    let got =
+    nth_from_yields_List c.nth.result c.nth.new.self c.args.k c.nth.ensures.ran
+    (YieldsList-from_slice_split _ (λ b. eqb b 9) line c.split.ensures.rest c.split.ensures.done c.split.ensures.closure (λ x b q k. search (rules, tests))) in
+    let at : slice_get (fields_of line) c.args.k ≡ Some c.in_ok-bytes.bytes.now =
+    sym got ∙ ap (option_map (λ (x : Bor (List ℕ)). x.now)) c.in_ok-bytes.was in
+    (slice_get_within (fields_of line) c.args.k _ at, sym (get_or_from_slice_get (fields_of line) c.args.k _ [] at), search rules)

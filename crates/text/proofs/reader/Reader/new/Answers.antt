@@ -1,6 +1,5 @@
-use Rattle.std.proofs.Common.{rules}
 use Rattle.text.proofs.Lossless.{lines_make}
 use Rattle.text.proofs.reader.Reader.new.Goals as goal
 
-pub returns : goal.returns
-returns c = record { begins = search rules; lossless = lines_make c.args.text.now }
+pub returns-clause-lossless : goal.returns-clause-lossless
+returns-clause-lossless c = lines_make c.args.text.now

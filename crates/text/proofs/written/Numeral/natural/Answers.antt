@@ -1,12 +1,7 @@
-use Rattle.std.proofs.Common.{ap, ◌∙◌, arith}
+use Rattle.std.proofs.Common.{ap, ◌∙◌}
 use Rattle.text.specs.Numerals.{numeral}
-use Rattle.text.proofs.WrittenNumbers.{length_decimal, numeral_decimal}
+use Rattle.text.proofs.WrittenNumbers.{numeral_decimal}
 use Rattle.text.proofs.written.Numeral.natural.Goals as goal
 
-pub put_natural-requires : goal.put_natural-requires
-put_natural-requires c = omega (arith, length_decimal c.args.n c.ranges.n.fits)
-
-pub returns : goal.returns
-returns c =
-    let is = c.put_natural.ensures.bytes in
-    record { written = is; read = ap numeral is ∙ numeral_decimal c.args.n c.ranges.n.fits }
+pub returns-clause-read : goal.returns-clause-read
+returns-clause-read c = ap numeral c.of.ensures ∙ numeral_decimal c.args.n c.ranges.n.fits
