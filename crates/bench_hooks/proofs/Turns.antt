@@ -24,9 +24,9 @@ use Rattle.bench_hooks.specs.Times.{Counts}
 abbrev pub one_if_read : Result Reading Refusal → ℕ
 one_if_read answer = from_bool (is_ok answer)
 
-pub at_most_one : (read : Bool) → from_bool read ≤ 1
-at_most_one true = omega arith
-at_most_one false = omega arith
+pub at_most_one : (n : ℕ) (read : Bool) → n ≡ from_bool read → n ≤ 1
+at_most_one n true e = omega (arith, e)
+at_most_one n false e = omega (arith, e)
 
 turn : (E : Enough) (s : PlainSheet) (source n count : ℕ) (found : Found) → Right E s source found → Counts E s source n count
     → Counts E s source (n + 1) (count + one_if_read (read_held s found source))

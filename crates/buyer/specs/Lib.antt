@@ -1,2 +1,2 @@
 pub mod Lead
-pub mod LeadLemmas
+pub mod LeadRuleSetLemmas

@@ -2,7 +2,7 @@
 #![tactic(auto)]
 
 ghost use Rattle.buyer.specs.Lead.{lead_added, lead_holds};
-ghost use Rattle.buyer.specs.LeadLemmas.{lead_adds};
+ghost use Rattle.buyer.specs.LeadRuleSetLemmas.{lead_adds};
 
 use rules::{AddedKinds, first_terms, other_terms};
 

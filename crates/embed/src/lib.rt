@@ -9,7 +9,8 @@ use crate::asking::{judge_text, number_in_text};
 use crate::failure::Failure;
 use crate::settling::settle_text;
 use crate::slots::{EventReading, FaultPlace};
-use records::entry::Need;
+// handed on: whoever asks for a verdict uses this crate alone
+pub use records::entry::Need;
 use std::alloc::Global;
 
 pub mod asking;

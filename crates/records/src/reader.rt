@@ -25,6 +25,20 @@ fn name(field: Field) -> Result<Name, RecordFault>
     Name::new(field.bytes).ok_or(RecordFault::MalformedName(field.place))
 }
 
+fn number(field: Field, least: i32, most: i32) -> Result<i32, RecordFault>
+    ensures value { result ≡ number_at least most field.entry.place field.entry.bytes.now }
+    ensures range { IfOk result (λ number. (least ≤ℤ number) × (number ≤ℤ most)) }
+{
+    read_numeral(field.bytes, least, most).map_err(|_| RecordFault::BadNumeral(field.place))
+}
+
+// of a field, and not of its number on the line: who looks first whether it is a minus has it already
+fn delay(field: Field) -> Result<i32, RecordFault>
+    ensures { result ≡ delay_at field.entry.place field.entry.bytes.now }
+{
+    number(field, -1_000_000, 1_000_000)
+}
+
 impl<'a, R: RuleSet> LineReader<'a, R> {
     // by its number, and not from a line split beforehand: a line may have any number of fields, and none is stored
     // The field with this index, counted from 0.
@@ -91,21 +105,12 @@ impl<'a, R: RuleSet> LineReader<'a, R> {
         }
     }
 
-    // one for each range that the format has, over this one; the field with index `k` is there in each, and each asks of another `k`
-    fn number(&self, k: usize, least: i32, most: i32) -> Result<i32, RecordFault>
-        requires { k < length (fields_in self.now) }
-        ensures value { result ≡ number_at least most (here self.now k) (field_in self.now k) }
-        ensures range { IfOk result (λ number. (least ≤ℤ number) × (number ≤ℤ most)) }
-    {
-        let field = self.field(k);
-        read_numeral(field.bytes, least, most).map_err(|_| RecordFault::BadNumeral(field.place))
-    }
-
+    // one for each range that the format has, over `number`; the field with index `k` is there in each, and each asks of another `k`
     pub(crate) fn delay(&self, k: usize) -> Result<i32, RecordFault>
         requires { k < length (fields_in self.now) }
         ensures { result ≡ delay_at (here self.now k) (field_in self.now k) }
     {
-        self.number(k, -1_000_000, 1_000_000)
+        delay(self.field(k))
     }
 
     // A delay, or None where the field is a minus alone.
@@ -113,9 +118,10 @@ impl<'a, R: RuleSet> LineReader<'a, R> {
         requires { k < length (fields_in self.now) }
         ensures { result ≡ side_at (here self.now k) (field_in self.now k) }
     {
-        match self.field(k).bytes {
+        let field = self.field(k);
+        match field.bytes {
             b"-" => Ok(None),
-            _ => Ok(Some(self.delay(k)?)),
+            _ => Ok(Some(delay(field)?)),
         }
     }
 
@@ -125,7 +131,7 @@ impl<'a, R: RuleSet> LineReader<'a, R> {
         ensures { result ≡ byte_at (here self.now k) (field_in self.now k) }
     {
         // `as`, not `u8::try_from`: a number from 0 to 255 has no other case to answer
-        Ok(self.number(k, 0, 255)? as u8)
+        Ok(number(self.field(k), 0, 255)? as u8)
     }
 
     // How far a need may go.
@@ -133,6 +139,6 @@ impl<'a, R: RuleSet> LineReader<'a, R> {
         requires { k < length (fields_in self.now) }
         ensures { result ≡ most_at (here self.now k) (field_in self.now k) }
     {
-        self.number(k, -63_000_000, 63_000_000)
+        number(self.field(k), -63_000_000, 63_000_000)
     }
 }

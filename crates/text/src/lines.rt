@@ -11,10 +11,17 @@ pub const NEWLINE: u8 = 10;
 pub const TAB: u8 = 9;
 
 /// How many parts `c` makes of `s`.
+// a loop: with `split(..).count()`, or a filter's, a text without its end takes two to three times as long to refuse
 pub(crate) fn count_parts(s: &[u8], c: u8) -> usize
     ensures { result ≡ length (parted_by c s.now) }
 {
-    s.split(|b| *b == c).count()
+    let mut n = 0;
+    for b in s {
+        if *b == c {
+            n += 1;
+        }
+    }
+    n + 1
 }
 
 fn is_allowed(b: u8) -> bool

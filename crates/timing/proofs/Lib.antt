@@ -10,3 +10,4 @@ pub mod KnotCertificates
 pub mod WorkedSheets
 pub mod Rise
 pub mod Room
+pub mod Narrow

@@ -10,7 +10,7 @@ use Rattle.rules.proofs.Masks.{mask_full}
 use Rattle.timing.specs.Model.{TermModel, BoundModel, TermWithin, BoundWithin, IsSheet}
 use Rattle.timing.specs.Timetables.{Timetable, allows, Suffice, Keeps, KeepsAll, Contradictory}
 use Rattle.timing.specs.Places.{far_mark, span}
-use Rattle.timing.specs.Rise.{Task, EligibleFor, join, phase_sum, Permits, Lifted, Phase, Quiet, Rising, Summit}
+use Rattle.timing.specs.Rise.{Task, EligibleFor, PlacesOf, join, phase_sum, Permits, Lifted, Phase, Quiet, Rising, Summit}
 use Rattle.timing.proofs.Keeping.{all_any, all_both, choice, join_is, le_true, true_le, allow, allowed, suffice_more, keeps_more, keeps_within, keeps_like}
 use Rattle.timing.proofs.Range.{top, low-all, none_eligible}
 
@@ -167,6 +167,11 @@ module _ {A : Admits} (k : Task) (laws : Laws A k.meaning) (within : AllByRecurs
 
   pub summit : (x y : Timetable) → Rising k x → Phase k x y → ((e : ℕ) → e < k.events → y e ≤ℤ x e) → Summit k x
   summit x y rising phase still = record { rising = rising; latest = none-later x y phase still }
+
+  -- it keeps all bounds: it is the places
+  pub places_at : (x : Timetable) → Summit k x → KeepsAll k.meaning k.bounds x → PlacesOf k x
+  places_at x summit keeps =
+      record { eligible = record { keeps = keeps; starts = summit.rising.starts; near = summit.rising.high }; latest = summit.latest }
 
 -- it breaks one: there is no timetable
 pub contradictory_at : {A : Admits} (k : Task) → Laws A k.meaning → IsSheet 64 k.limit k.events k.bounds → k.source < k.events

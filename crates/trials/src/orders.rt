@@ -144,6 +144,12 @@ fn two_hundred_and_fifty_six_bounds_by_lines(rt: HostRuntime) -> Result<(), Fail
     )
 }
 
+const BLANK: Need = Need {
+    from: 0,
+    to: 0,
+    most: 0,
+};
+
 const FULL: Need = Need {
     from: 1,
     to: 2,
@@ -167,7 +173,7 @@ fn a_load_starts_anew(rt: HostRuntime) -> Result<(), Fail> {
                 most: 5
             }
     );
-    assert!(rt; slots[1] == Need::default() && slots[2] == Need::default());
+    assert!(rt; slots[1] == BLANK && slots[2] == BLANK);
     Ok(())
 }
 
@@ -178,11 +184,11 @@ fn a_refused_load_leaves_nothing(rt: HostRuntime) -> Result<(), Fail> {
     let text = b"event\tA\nevent\tB\nlinear\tA\tB\t-\t5\nneed\tA\tB\t5\nneed\tA\tC\t5\n";
     assert!(rt; load(text, &mut sheet, &mut slots).is_err());
     assert!(rt; sheet.event_count() == 0 && sheet.bound_count() == 0);
-    assert!(rt; slots[0] == Need::default() && slots[1] == Need::default());
+    assert!(rt; slots[0] == BLANK && slots[1] == BLANK);
     // two needs and one slot
     let text = b"event\tA\nneed\tA\tA\t5\nneed\tA\tA\t6\n";
     assert!(rt; load(text, &mut sheet, &mut slots[..1]).is_err());
-    assert!(rt; sheet.event_count() == 0 && slots[0] == Need::default());
+    assert!(rt; sheet.event_count() == 0 && slots[0] == BLANK);
     assert!(rt; load(text, &mut sheet, &mut slots) == Ok(2));
     assert!(rt; slots[1].most == 6);
     Ok(())

@@ -1,5 +1,4 @@
-use Rattle.std.proofs.Common.{ap, ◌∙◌, arith}
-use Rattle.std.specs.Prelude.{is_ok}
+use Rattle.std.proofs.Common.{ap, ◌∙◌, arith, rules}
 use Rattle.std.specs.Int.{from_bool}
 use Rattle.bench_hooks.proofs.Turns.{at_most_one, turned}
 use Rattle.bench_hooks.proofs.settle_sheet_times.Goals as goal
@@ -11,7 +10,7 @@ loop-turn-preserved g c =
     let inv = c.loop-turn.invariant in
     let moved = told.moved ∙ inv.0 in (
       c.reopen-drawn.ensures ∙ moved,
-      omega (arith, inv.1, c.from-count.ensures, at_most_one c.is_ok.result),
+      omega (arith, inv.1, at_most_one _ _ c.from-count.ensures),
       turned g.met.R.RuleSet.lawful c.args.sheet t c.args.source c.loop-turn._turn c.loop-turn.count c.from-count.result
-          moved told.from (c.from-count.ensures ∙ ap from_bool (c.is_ok.ensures.value ∙ ap is_ok c.read.ensures.held)) inv.2,
+          moved told.from (c.from-count.ensures ∙ ap from_bool (search rules)) inv.2,
     )

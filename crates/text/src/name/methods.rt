@@ -28,7 +28,7 @@ impl Name {
     pub fn new(written: &[u8]) -> Option<Name>
         ensures { MatchOption result (is_name written.now ≡ false) (λ name. spelled name ≡ written.now) }
     {
-        if written.is_empty() || !all_name_bytes(written) {
+        if written.is_empty() || written.len() > MAX_LEN || !all_name_bytes(written) {
             return None;
         }
         let bytes = Short::new(written)?;

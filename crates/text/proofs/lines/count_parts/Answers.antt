@@ -1,10 +1,7 @@
-use Rattle.std.proofs.Common.{eqb, rules, tests}
-use Rattle.std.proofs.lemmas.Iterator.Consumers.{count_from_yields_List}
-use Rattle.std.proofs.lemmas.Iterator.Splits.{YieldsList-from_slice_split}
+use Rattle.std.proofs.Common.{rules}
+use Rattle.std.proofs.lemmas.List.{take_all}
+use Rattle.std.proofs.lemmas.List.Splits.{length-slice_split}
 use Rattle.text.proofs.lines.count_parts.Goals as goal
 
 pub returns : goal.returns
-returns c =
-    count_from_yields_List c.split.result _ c.count.ensures.ran
-    (YieldsList-from_slice_split _ (λ b. eqb b c.args.c) c.args.s.now c.split.ensures.rest c.split.ensures.done c.split.ensures.closure
-    (λ x b q k. search (rules, tests)))
+returns c = search (rules, take_all, length-slice_split)

@@ -1,4 +1,6 @@
-use Rattle.std.proofs.Common.{sym, ℕ, List}
+use Rattle.std.proofs.Common.{sym, ap, ◌∙◌, rules, ℕ, List}
+use Rattle.std.specs.List.{flat_map}
+use Rattle.std.proofs.lemmas.List.{take_all}
 use Rattle.std.proofs.lemmas.List.Folds.{flat_map-map}
 use Rattle.text.specs.Spelled.{spelled}
 use Rattle.text.specs.declared.name.Name.{Name}
@@ -14,10 +16,10 @@ loop-name-init c = puts_none c.args.self.now
 
 pub loop-name-preserved : goal.loop-name-preserved
 loop-name-preserved c =
-    pieces_more (λ _. line) c.args.self.now.names.now c.loop-name.name-index c.name-item.result c.name-item.result c.loop-name-test.true c.name-item.is
+    pieces_more (λ _. line) _ c.loop-name.name-index c.name-item.result c.name-item.result c.loop-name-test.true c.name-item.is
     c.loop-name.invariant c.put_event.ensures
 
 pub returns : goal.returns
 returns c =
-    puts_same (sym (flat_map-map (λ name. line_of (event_fields name)) spelled c.args.self.now.names.now))
-    (pieces_all line c.args.self.now.names.now c.loop-name.name-index c.loop-name-test.false c.loop-name.invariant)
+    let told = pieces_all line _ c.loop-name.name-index c.loop-name-test.false c.loop-name.invariant in
+    puts_same (ap (flat_map line) (search (rules, take_all)) ∙ sym (flat_map-map (λ name. line_of (event_fields name)) spelled c.args.self.now.names.now)) told
